@@ -1,0 +1,23 @@
+# Short names for the steps of the gate. What each does stands in .ci/step.
+.PHONY: check prove archive host vectors compare header reference fmt clean
+
+check:
+	.ci/run
+
+prove:
+	rt check
+
+archive header reference:
+	.ci/step $@
+
+host: archive
+	.ci/step $@
+
+vectors compare: host
+	.ci/step $@
+
+fmt:
+	rt fmt
+
+clean:
+	rm -rf target build reference/target
