@@ -1,0 +1,99 @@
+#include "calls.h"
+
+/* The archive is built for this layout: one eightbyte, then the two flags. */
+_Static_assert(sizeof(qg_settings) == 16, "settings cross as 16 bytes");
+_Static_assert(sizeof(qg_reply) == 8, "a reply crosses as 8 bytes");
+
+/* A run as the C face takes it. */
+#define RUN(run) (run).at, (run).len
+
+/* A settings struct stands flattened at the front of the numbers. */
+#define SETTINGS_NUMBERS 3
+
+static qg_settings settings_of(const uint64_t *numbers)
+{
+	qg_settings settings = {
+		.header = (size_t)numbers[0],
+		.restricted = (uint8_t)numbers[1],
+		.variable = (uint8_t)numbers[2],
+	};
+
+	return settings;
+}
+
+static qg_reply make_read_block(const struct call_args *args)
+{
+	return qg_read_block((uint32_t)args->numbers[0], RUN(args->runs[0]),
+		RUN(args->runs[1]), RUN(args->out));
+}
+
+static qg_reply make_write_block(const struct call_args *args)
+{
+	return qg_write_block((uint32_t)args->numbers[0], RUN(args->runs[0]),
+		RUN(args->runs[1]), RUN(args->runs[2]), RUN(args->out));
+}
+
+static qg_reply make_translate(const struct call_args *args)
+{
+	const uint64_t *formats = args->numbers + SETTINGS_NUMBERS;
+
+	return qg_translate(settings_of(args->numbers), (uint32_t)formats[0],
+		(uint32_t)formats[1], RUN(args->runs[0]), RUN(args->runs[1]),
+		RUN(args->runs[2]), RUN(args->out));
+}
+
+#define SETTINGS { "header", 8 }, { "restricted", 1 }, { "variable", 1 }
+
+const struct call calls[] = {
+	{ 1, "read_block", { { "format", 4 } },
+		{ "block", "account" }, true, make_read_block },
+	{ 2, "write_block", { { "format", 4 } },
+		{ "pin", "account", "fill" }, true, make_write_block },
+	{ 3, "translate", { SETTINGS, { "from", 4 }, { "to", 4 } },
+		{ "block", "account", "fill" }, true, make_translate },
+};
+
+const size_t calls_len = sizeof calls / sizeof calls[0];
+
+const struct call *call_of(uint8_t code)
+{
+	for (size_t i = 0; i < calls_len; i++)
+		if (calls[i].code == code)
+			return &calls[i];
+	return NULL;
+}
+
+size_t call_numbers(const struct call *call)
+{
+	size_t n = 0;
+
+	while (n < CASE_NUMBERS && call->numbers[n].name != NULL)
+		n++;
+	return n;
+}
+
+size_t call_runs(const struct call *call)
+{
+	size_t n = 0;
+
+	while (n < CASE_RUNS && call->runs[n] != NULL)
+		n++;
+	return n;
+}
+
+/* Whether a parameter of so many bytes can carry the value. */
+static bool carries(uint8_t bytes, uint64_t value)
+{
+	return bytes == 8 || value >> (8 * bytes) == 0;
+}
+
+bool call_fits(const struct call *call, const struct call_case *one)
+{
+	if (one->numbers_len != call_numbers(call) ||
+		one->runs_len != call_runs(call) || one->has_out != call->has_out)
+		return false;
+	for (size_t i = 0; i < one->numbers_len; i++)
+		if (!carries(call->numbers[i].bytes, one->numbers[i]))
+			return false;
+	return true;
+}

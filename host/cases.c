@@ -1,0 +1,202 @@
+#include "cases.h"
+
+#include <stdio.h>
+#include <stdlib.h>
+#include <string.h>
+
+#include "lent.h"
+
+static const char mark[8] = { 'Q', 'G', 'C', 'A', 'S', 'E', 'S', '1' };
+
+/* The first fault is the one that is told. */
+static bool refuse(struct case_file *file, const char *fault)
+{
+	if (file->fault == NULL)
+		file->fault = fault;
+	return false;
+}
+
+/* The next len bytes, or NULL and a fault where the file ends before. */
+static const uint8_t *take(struct case_file *file, size_t len)
+{
+	const uint8_t *found = file->bytes + file->at;
+
+	if (file->len - file->at < len) {
+		refuse(file, "the file ends inside a case or before its trailer");
+		return NULL;
+	}
+	file->at += len;
+	return found;
+}
+
+static bool take_number(struct case_file *file, size_t width, uint64_t *value)
+{
+	const uint8_t *found = take(file, width);
+
+	if (found == NULL)
+		return false;
+	*value = 0;
+	for (size_t i = 0; i < width; i++)
+		*value |= (uint64_t)found[i] << (8 * i);
+	return true;
+}
+
+static bool take_u8(struct case_file *file, uint8_t *value)
+{
+	uint64_t wide;
+
+	if (!take_number(file, 1, &wide))
+		return false;
+	*value = (uint8_t)wide;
+	return true;
+}
+
+static bool take_u32(struct case_file *file, uint32_t *value)
+{
+	uint64_t wide;
+
+	if (!take_number(file, 4, &wide))
+		return false;
+	*value = (uint32_t)wide;
+	return true;
+}
+
+static bool take_bytes(struct case_file *file, size_t len, struct case_run *run)
+{
+	run->bytes = take(file, len);
+	run->len = len;
+	return run->bytes != NULL;
+}
+
+/* A length, then that many bytes. */
+static bool take_run(struct case_file *file, struct case_run *run)
+{
+	uint32_t len;
+
+	if (!take_u32(file, &len))
+		return false;
+	if (len > LENT_MOST)
+		return refuse(file, "a run is longer than this host lends");
+	return take_bytes(file, len, run);
+}
+
+static bool take_numbers(struct case_file *file, struct call_case *one)
+{
+	if (!take_u8(file, &one->numbers_len))
+		return false;
+	if (one->numbers_len > CASE_NUMBERS)
+		return refuse(file, "a case has more numbers than any call");
+	for (size_t i = 0; i < one->numbers_len; i++)
+		if (!take_number(file, 8, &one->numbers[i]))
+			return false;
+	return true;
+}
+
+static bool take_runs(struct case_file *file, struct call_case *one)
+{
+	if (!take_u8(file, &one->runs_len))
+		return false;
+	if (one->runs_len > CASE_RUNS)
+		return refuse(file, "a case has more runs than any call");
+	for (size_t i = 0; i < one->runs_len; i++)
+		if (!take_run(file, &one->runs[i]))
+			return false;
+	return true;
+}
+
+static bool take_output(struct case_file *file, struct call_case *one)
+{
+	uint8_t has_out;
+
+	if (!take_u8(file, &has_out))
+		return false;
+	if (has_out > 1)
+		return refuse(file, "a case says neither 0 nor 1 for its output");
+	one->has_out = has_out == 1;
+	return !one->has_out || take_run(file, &one->before);
+}
+
+static bool take_answer(struct case_file *file, struct call_case *one)
+{
+	return take_u32(file, &one->number) && take_u32(file, &one->written) &&
+		(!one->has_out || take_bytes(file, one->before.len, &one->after));
+}
+
+static bool take_trailer(struct case_file *file)
+{
+	uint64_t count;
+
+	if (!take_number(file, 8, &count))
+		return false;
+	if (count != file->count)
+		return refuse(file, "the trailer counts another number of cases");
+	if (file->at != file->len)
+		return refuse(file, "bytes stand behind the trailer");
+	if (count == 0)
+		return refuse(file, "the file has no case");
+	return true;
+}
+
+bool cases_next(struct case_file *file, struct call_case *one)
+{
+	memset(one, 0, sizeof *one);
+	if (file->fault != NULL || !take_u8(file, &one->code))
+		return false;
+	if (one->code == 0) {
+		take_trailer(file);
+		return false;
+	}
+	if (!take_numbers(file, one) || !take_runs(file, one) ||
+		!take_output(file, one) || !take_answer(file, one))
+		return false;
+	file->count++;
+	return true;
+}
+
+/* The length of an open file, or -1; leaves it at its beginning. */
+static long length_of(FILE *stream)
+{
+	if (fseek(stream, 0, SEEK_END) != 0)
+		return -1;
+	long len = ftell(stream);
+	return fseek(stream, 0, SEEK_SET) == 0 ? len : -1;
+}
+
+static bool load(struct case_file *file, FILE *stream)
+{
+	long len = length_of(stream);
+
+	if (len < 0)
+		return refuse(file, "the file's length cannot be found");
+	file->len = (size_t)len;
+	file->bytes = malloc(file->len + 1);
+	if (file->bytes == NULL)
+		return refuse(file, "there is no memory for the file");
+	if (fread(file->bytes, 1, file->len, stream) != file->len)
+		return refuse(file, "the file cannot be read");
+	return true;
+}
+
+bool cases_open(struct case_file *file, const char *path)
+{
+	memset(file, 0, sizeof *file);
+	FILE *stream = fopen(path, "rb");
+	if (stream == NULL)
+		return refuse(file, "the file cannot be opened");
+	bool loaded = load(file, stream);
+	fclose(stream);
+	if (!loaded)
+		return false;
+	const uint8_t *begin = take(file, sizeof mark);
+	if (begin == NULL || memcmp(begin, mark, sizeof mark) != 0) {
+		file->fault = "the file does not begin with QGCASES1";
+		return false;
+	}
+	return true;
+}
+
+void cases_close(struct case_file *file)
+{
+	free(file->bytes);
+	file->bytes = NULL;
+}

@@ -1,0 +1,64 @@
+/*
+ * The reader of a case file: calls with their arguments and the answers that
+ * they must get. Integers are little-endian.
+ *
+ *   header    8 bytes "QGCASES1"
+ *   a case    u8   code of the call, not 0
+ *             u8   n, then n times u64: the numbers in the order of the C
+ *                  face, a settings struct as header, restricted, variable
+ *             u8   r, then r times u32 length and bytes: the runs in the same
+ *                  order, the output not among them
+ *             u8   1 where the call is lent an output, else 0
+ *             with an output: u32 its length, and its bytes before the call
+ *             u32  expected number
+ *             u32  expected count of what is written
+ *             with an output: its bytes after the call
+ *   trailer   u8 0, then u64 the number of cases; nothing follows it
+ */
+#ifndef HOST_CASES_H
+#define HOST_CASES_H
+
+#include <stdbool.h>
+#include <stddef.h>
+#include <stdint.h>
+
+/* More numbers, or more runs, than any call of the C face has. */
+#define CASE_NUMBERS 8
+#define CASE_RUNS 8
+
+struct case_run {
+	const uint8_t *bytes;
+	size_t len;
+};
+
+struct call_case {
+	uint8_t code;
+	uint8_t numbers_len;
+	uint8_t runs_len;
+	bool has_out;
+	uint64_t numbers[CASE_NUMBERS];
+	struct case_run runs[CASE_RUNS];
+	struct case_run before;
+	struct case_run after;
+	uint32_t number;
+	uint32_t written;
+};
+
+struct case_file {
+	uint8_t *bytes;
+	size_t len;
+	size_t at;
+	uint64_t count;     /* cases read so far */
+	const char *fault;  /* what is wrong with the file, or NULL */
+};
+
+/* Takes a file into memory and reads its header. False: `fault` says why. */
+bool cases_open(struct case_file *file, const char *path);
+
+/* Reads the next case. False at the trailer and at a fault. The case's runs
+ * point into the file's memory. */
+bool cases_next(struct case_file *file, struct call_case *one);
+
+void cases_close(struct case_file *file);
+
+#endif

@@ -1,0 +1,179 @@
+/*
+ * compare FILE: replays a case file against the archive. Each case is tried
+ * with its runs before a guard and again behind one; it passes where both
+ * trials give the expected number, count and output and leave every other byte
+ * alone. The last line is 'compare: N passed, M failed'; a fault of the file
+ * counts as one more that failed.
+ */
+#include <inttypes.h>
+#include <stdio.h>
+
+#include "calls.h"
+#include "cases.h"
+#include "trial.h"
+
+/* How many failed cases are shown in full. */
+#define SHOWN 5
+
+/* The paper's numbers have at most three figures. */
+#define NUMBERS 1000
+
+/* A call's code is a byte. */
+#define CODES 256
+
+struct score {
+	uint64_t passed;
+	uint64_t failed;
+	uint64_t tally[CODES][NUMBERS];
+};
+
+static void show_bytes(const char *name, const uint8_t *bytes, size_t len)
+{
+	printf("  %-10s %5zu bytes:", name, len);
+	for (size_t i = 0; i < len; i++)
+		printf(" %02X", bytes[i]);
+	putchar('\n');
+}
+
+static void show_arguments(const struct call *call, const struct call_case *one)
+{
+	for (size_t i = 0; i < one->numbers_len; i++)
+		printf("  %-10s %" PRIu64 "\n", call->numbers[i].name, one->numbers[i]);
+	for (size_t i = 0; i < one->runs_len; i++)
+		show_bytes(call->runs[i], one->runs[i].bytes, one->runs[i].len);
+	if (one->has_out)
+		show_bytes("lent", one->before.bytes, one->before.len);
+}
+
+static void show_answers(const struct call_case *one, const struct trial *trial)
+{
+	printf("  expected   number %02" PRIu32 ", written %" PRIu32 "\n",
+		one->number, one->written);
+	if (one->has_out)
+		show_bytes("expected", one->after.bytes, one->after.len);
+	if (trial->harm == HARM_STOPPED)
+		printf("  got        signal %d\n", trial->signal);
+	else
+		printf("  got        number %02" PRIu32 ", written %" PRIu32 "\n",
+			trial->reply.number, trial->reply.written);
+	if (one->has_out)
+		show_bytes("got", trial->out, one->before.len);
+}
+
+static const char *harm_in_words(enum harm harm)
+{
+	switch (harm) {
+	case HARM_NONE: break;
+	case HARM_STOPPED: return "the call was stopped at";
+	case HARM_INPUT: return "the call changed";
+	case HARM_MARGIN: return "the call wrote beside";
+	case HARM_NUMBER: return "another";
+	case HARM_WRITTEN: return "another count of";
+	case HARM_OUTPUT: return "other bytes in";
+	}
+	return "no harm";
+}
+
+static void show_failure(uint64_t place, const struct call *call,
+	const struct call_case *one, enum lent_side side,
+	const struct trial *trial)
+{
+	printf("case %" PRIu64 ", %s, runs %s a guard: %s %s\n", place, call->name,
+		side == LENT_BEFORE_GUARD ? "before" : "behind",
+		harm_in_words(trial->harm), trial->what);
+	show_arguments(call, one);
+	show_answers(one, trial);
+}
+
+/* Tries a case both ways and scores it. */
+static void replay(uint64_t place, const struct call *call,
+	const struct call_case *one, struct score *score)
+{
+	static const enum lent_side sides[] = { LENT_BEFORE_GUARD, LENT_BEHIND_GUARD };
+	static struct trial trial;
+	bool passed = true;
+
+	for (size_t i = 0; i < 2 && passed; i++) {
+		passed = trial_run(call, one, sides[i], &trial);
+		if (!passed && score->failed < SHOWN)
+			show_failure(place, call, one, sides[i], &trial);
+	}
+	score->tally[call->code][one->number]++;
+	if (passed)
+		score->passed++;
+	else
+		score->failed++;
+}
+
+/* Why a case cannot be replayed, or NULL. */
+static const char *unfit(const struct call *call, const struct call_case *one)
+{
+	if (call == NULL)
+		return "no call has this code";
+	if (!call_fits(call, one))
+		return "the case has not what its call is handed";
+	if (one->number >= NUMBERS)
+		return "the paper has no number of four figures";
+	return NULL;
+}
+
+/* Replays every case of the file. What is wrong with the file, or NULL. */
+static const char *replay_all(struct case_file *file, struct score *score)
+{
+	struct call_case one;
+
+	while (cases_next(file, &one)) {
+		const struct call *call = call_of(one.code);
+		const char *fault = unfit(call, &one);
+
+		if (fault != NULL)
+			return fault;
+		replay(file->count, call, &one, score);
+	}
+	return file->fault;
+}
+
+static void show_tally(const struct score *score)
+{
+	for (size_t i = 0; i < calls_len; i++)
+		for (unsigned number = 0; number < NUMBERS; number++) {
+			uint64_t count = score->tally[calls[i].code][number];
+
+			if (count > 0)
+				printf("%s %02u %" PRIu64 "\n", calls[i].name, number, count);
+		}
+}
+
+static int finish(const struct score *score)
+{
+	show_tally(score);
+	printf("compare: %" PRIu64 " passed, %" PRIu64 " failed\n", score->passed,
+		score->failed);
+	return score->failed == 0 && score->passed > 0 ? 0 : 1;
+}
+
+int main(int argc, char **argv)
+{
+	static struct score score;
+	struct case_file file;
+	const char *fault;
+
+	if (argc != 2) {
+		fprintf(stderr, "usage: compare FILE\n");
+		return 2;
+	}
+	if (!trial_open()) {
+		fprintf(stderr, "compare: no guarded memory could be mapped\n");
+		return 2;
+	}
+	fault = cases_open(&file, argv[1]) ? replay_all(&file, &score) : file.fault;
+	if (fault != NULL) {
+		/* a case that could not be read is not counted yet */
+		uint64_t place = file.count + (file.fault != NULL ? 1 : 0);
+
+		printf("%s, at case %" PRIu64 ": %s\n", argv[1], place, fault);
+		score.failed++;
+	}
+	cases_close(&file);
+	return finish(&score);
+}
