@@ -1,0 +1,172 @@
+//! The asking and the answering call of a host command.
+
+use crate::block;
+use crate::cursor::printable;
+use crate::fields::{self, Fields};
+use crate::offset::{self, covered, OFFSET_CHARACTERS};
+use crate::reply::{eight_bytes, lent, Refusal, Reply};
+use crate::settings::Settings;
+
+const LONGEST_COMMAND: usize = 4096;
+const CODE: usize = 2;
+
+/// Header 16, response code 2, number 2, offset 12, trailer with its mark 33.
+const LONGEST_RESPONSE: usize = 65;
+
+/// A command taken apart as far as its frame goes.
+struct Frame<'a> {
+    header: &'a [u8],
+    code: [u8; CODE],
+    body: &'a [u8],
+}
+
+/// The usual settings.
+pub fn usual() -> Settings {
+    Settings::usual()
+}
+
+/// Reads a command and writes the block that the key box must encipher under the PVK.
+pub fn ask(settings: Settings, command: &[u8], out: &mut [u8]) -> Reply {
+    Reply::of_written(try_ask(settings, command, out))
+}
+
+fn try_ask(settings: Settings, command: &[u8], out: &mut [u8]) -> Result<u32, Refusal> {
+    let out = lent::<8>(out)?;
+    let frame = Frame::of_command(settings, command)?;
+    let fields = frame.fields(settings)?;
+    *out = fields.validation.to_be_bytes();
+    Ok(8)
+}
+
+/// Takes the command again with what the key box has made of it, and writes the response.
+pub fn answer(
+    settings: Settings,
+    pin_key_parity_good: bool,
+    pvk_parity_good: bool,
+    command: &[u8],
+    pin_block: &[u8],
+    enciphered: &[u8],
+    out: &mut [u8],
+) -> Reply {
+    let key_box = KeyBox { pin_key_parity_good, pvk_parity_good, pin_block, enciphered };
+    Reply::of_response(try_answer(settings, key_box, command, out))
+}
+
+/// What the key box hands over.
+struct KeyBox<'a> {
+    pin_key_parity_good: bool,
+    pvk_parity_good: bool,
+    pin_block: &'a [u8],
+    enciphered: &'a [u8],
+}
+
+/// Only 901 and 902 leave without a response.
+fn try_answer(
+    settings: Settings,
+    key_box: KeyBox<'_>,
+    command: &[u8],
+    out: &mut [u8],
+) -> Result<Reply, Refusal> {
+    let out = lent::<LONGEST_RESPONSE>(out)?;
+    let frame = Frame::of_command(settings, command)?;
+    let mut response = Response { out, written: 0 };
+    let number = match judge(settings, &key_box, &frame) {
+        Ok((offset, trailer)) => {
+            response.begin(&frame, 0);
+            response.put(&offset);
+            response.put(trailer);
+            0
+        }
+        // "A trailer, with its 19 mark, comes back with 00 only."
+        Err(refusal) => {
+            response.begin(&frame, refusal.number());
+            refusal.number()
+        }
+    };
+    Ok(Reply { number, written: response.written as u32 })
+}
+
+/// 68, the fields, what the key box hands over: the offset and the trailer to be sent back.
+fn judge<'a>(
+    settings: Settings,
+    key_box: &KeyBox<'_>,
+    frame: &Frame<'a>,
+) -> Result<([u8; OFFSET_CHARACTERS], &'a [u8]), Refusal> {
+    let fields = frame.fields(settings)?;
+    let offset = key_box.offset(settings, &fields)?;
+    Ok((offset, fields.trailer))
+}
+
+impl<'a> Frame<'a> {
+    /// "no frame: header setting over 16, command over 4,096 bytes or under header + 2, or a
+    /// header byte outside 20 to 7E hex" is 902.
+    fn of_command(settings: Settings, command: &'a [u8]) -> Result<Frame<'a>, Refusal> {
+        if settings.header > Settings::HEADER_LIMIT || command.len() > LONGEST_COMMAND {
+            return Err(Refusal::NoFrame);
+        }
+        let (header, rest) = command.split_at_checked(settings.header).ok_or(Refusal::NoFrame)?;
+        let (code, body) = rest.split_first_chunk::<CODE>().ok_or(Refusal::NoFrame)?;
+        if !header.iter().all(printable) {
+            return Err(Refusal::NoFrame);
+        }
+        Ok(Frame { header, code: *code, body })
+    }
+
+    /// 68, then the fields.
+    fn fields(&self, settings: Settings) -> Result<Fields<'a>, Refusal> {
+        if &self.code != b"BK" {
+            return Err(Refusal::CommandCode);
+        }
+        fields::read(settings, self.body)
+    }
+
+    /// "the command code with its second byte raised by one (255 becomes 0)".
+    fn response_code(&self) -> [u8; CODE] {
+        [self.code[0], self.code[1].wrapping_add(1)]
+    }
+}
+
+impl KeyBox<'_> {
+    /// "two slices that are not 8 bytes long (15), 10, 11, the block (20 or 24), 81, 86".
+    fn offset(
+        &self,
+        settings: Settings,
+        fields: &Fields<'_>,
+    ) -> Result<[u8; OFFSET_CHARACTERS], Refusal> {
+        let pin_block = eight_bytes(self.pin_block)?;
+        let enciphered = eight_bytes(self.enciphered)?;
+        if !self.pin_key_parity_good {
+            return Err(Refusal::PinKeyParity);
+        }
+        if !self.pvk_parity_good {
+            return Err(Refusal::PvkParity);
+        }
+        let pin = block::read(fields.format, pin_block, fields.account)?;
+        let covered = covered(settings, fields.check, &pin)?;
+        if fields.weak_pins.hold(&pin) {
+            return Err(Refusal::WeakPin);
+        }
+        let natural = fields.table.natural_pin(enciphered, pin.length());
+        Ok(offset::characters(&pin, &natural, covered))
+    }
+}
+
+/// The response as it grows in the lent output.
+struct Response<'a> {
+    out: &'a mut [u8; LONGEST_RESPONSE],
+    written: usize,
+}
+
+impl Response<'_> {
+    fn put(&mut self, part: &[u8]) {
+        self.out[self.written..self.written + part.len()].copy_from_slice(part);
+        self.written += part.len();
+    }
+
+    /// "header, response code and two-digit number".
+    fn begin(&mut self, frame: &Frame<'_>, number: u32) {
+        self.put(frame.header);
+        self.put(&frame.response_code());
+        self.put(&[b'0' + (number / 10) as u8, b'0' + (number % 10) as u8]);
+    }
+}

@@ -1,0 +1,33 @@
+//! A second reading of the paper `01-scope`, written without sight of the product.
+//!
+//! Every call takes what the matching call of the C face takes: numbers, byte runs and lent
+//! output. It answers with a [`Reply`], and it allocates nothing.
+//!
+//! "The paper" in the comments is `01-scope`; "the open points" are the readings which the
+//! design settles where the paper leaves a choice.
+
+pub mod account;
+pub mod block;
+pub mod block_calls;
+pub mod cases;
+pub mod command_calls;
+pub mod cursor;
+pub mod fields;
+pub mod format;
+pub mod key_field;
+pub mod natural;
+pub mod offset;
+pub mod offset_calls;
+pub mod pin;
+pub mod pvv;
+pub mod reply;
+pub mod settings;
+pub mod validation;
+
+pub use block_calls::{read_block, translate, write_block};
+pub use command_calls::{answer, ask, usual};
+pub use offset_calls::{differences, natural_pin, offset, offset_of_digits, offset_verdict};
+pub use pvv::{pvv, pvv_input, pvv_verdict};
+pub use reply::{Refusal, Reply};
+pub use settings::Settings;
+pub use validation::validation_block;

@@ -1,0 +1,204 @@
+//! Worked blocks of the paper and of its sources, and the order of judging.
+
+mod common;
+
+use common::{bytes, digits, done, refused, ACCOUNT, NO_FILL, UNTOUCHED};
+use reference::{read_block, translate, write_block, Reply, Settings};
+
+/// The block of a PIN; also that reading gives the PIN back and that the buffer's other bytes
+/// keep their values.
+fn assert_both_ways(format: u32, pin: &str, block: &str) {
+    let pin = digits(pin);
+    let block = bytes(block);
+    let mut out = [UNTOUCHED; 9];
+    assert_eq!(write_block(format, &pin, ACCOUNT, NO_FILL, &mut out), done(8));
+    assert_eq!(out[..8], block[..]);
+    assert_eq!(out[8], UNTOUCHED);
+    let mut out = [UNTOUCHED; 13];
+    assert_eq!(read_block(format, &block, ACCOUNT, &mut out), done(pin.len() as u32));
+    assert_eq!(out[..pin.len()], pin[..]);
+    assert!(out[pin.len()..].iter().all(|&byte| byte == UNTOUCHED));
+}
+
+fn assert_reading_refused(format: u32, block: &str, number: u32) {
+    let mut out = [UNTOUCHED; 12];
+    assert_eq!(read_block(format, &bytes(block), ACCOUNT, &mut out), refused(number));
+    assert_eq!(out, [UNTOUCHED; 12]);
+}
+
+/// P1 to P6 of the paper.
+#[test]
+fn proved_blocks() {
+    assert_both_ways(35, "34567", "25 34 16 7F FF ED CB A9");
+    assert_both_ways(1, "34567", "05 34 16 7F FF ED CB A9");
+    assert_both_ways(47, "34567", "35 34 16 7A AA B8 9E FC");
+    assert_both_ways(5, "34567", "15 34 56 70 00 00 00 00");
+    assert_both_ways(3, "34567", "34 56 7F FF FF FF FF FF");
+    assert_both_ways(34, "123456789012", "2C 12 34 56 78 90 12 FF");
+}
+
+/// P7 and P8 of the paper. P7 holds for every tail behind 2D; three of them stand here.
+#[test]
+fn proved_refusals() {
+    assert_reading_refused(34, "23 12 3F FF FF FF FF FF", 24);
+    assert_reading_refused(34, "2D 12 34 56 78 90 12 3F", 24);
+    assert_reading_refused(34, "2D FF FF FF FF FF FF FF", 24);
+    assert_reading_refused(34, "2D 00 00 00 00 00 00 00", 24);
+    assert_reading_refused(34, "24 12 3A FF FF FF FF FF", 20);
+}
+
+/// Source 000, section 11.2.1: PIN 92389, account number 4000 0012 3456 with check digit 2.
+#[test]
+fn source_000_format_01() {
+    assert_both_ways(1, "92389", "05 92 78 9F FF ED CB A9");
+}
+
+/// Source 000, section 11.2.2: PIN 92389.
+#[test]
+fn source_000_format_03() {
+    assert_both_ways(3, "92389", "92 38 9F FF FF FF FF FF");
+}
+
+/// Source 000, section 11.2.4: PIN 34567.
+#[test]
+fn source_000_format_34() {
+    assert_both_ways(34, "34567", "25 34 56 7F FF FF FF FF");
+}
+
+/// Source 000, section 11.2.5: PIN 34567; account digits 4000 0012 3456 out of a 16-digit card
+/// number.
+#[test]
+fn source_000_format_35() {
+    assert_both_ways(35, "34567", "25 34 16 7F FF ED CB A9");
+}
+
+/// Sources 001 (A.1.2) and 002 (A.1.2): PIN 1234567. Their print has lost part of the fill; the
+/// block has seven F.
+#[test]
+fn sources_001_and_002_format_34() {
+    assert_both_ways(34, "1234567", "27 12 34 56 7F FF FF FF");
+}
+
+/// Source 000, section 11.2.3, names three checks for format 05; the paper puts N before digits.
+#[test]
+fn format_05_control_then_length_then_digits() {
+    assert_reading_refused(5, "03 A0 00 00 00 00 00 00", 20);
+    assert_reading_refused(5, "13 A0 00 00 00 00 00 00", 24);
+    assert_reading_refused(5, "14 A0 00 00 00 00 00 00", 20);
+}
+
+/// "testing its fill before the account is removed" is a slip: account 400000123456 turns a
+/// clear A into other nibbles, and a clear 9 into a letter.
+#[test]
+fn format_47_fill_is_judged_without_the_account() {
+    assert_both_ways(47, "3456", "34 34 16 AA AA B8 9E FC");
+    // The last clear nibble would be 9: its block nibble is F.
+    assert_reading_refused(47, "34 34 16 AA AA B8 9E FF", 20);
+}
+
+/// "47 takes ten plus its remainder by six", "format 05 takes the nibble", at their own places.
+#[test]
+fn fill_nibble_for_nibble() {
+    let fill = bytes("01 23 45 67 89 AB CD EF");
+    let zeros = b"000000000000";
+    let mut out = [0; 8];
+    assert_eq!(write_block(47, &[1, 2, 3, 4], zeros, &fill, &mut out), done(8));
+    assert_eq!(out[..], bytes("34 12 34 AB CD EF AB CD"));
+    assert_eq!(write_block(5, &[1, 2, 3, 4, 5], zeros, &fill, &mut out), done(8));
+    assert_eq!(out[..], bytes("15 12 34 57 89 AB CD EF"));
+}
+
+/// Format 03: rubbish behind the first F is not looked at; letters before it come before the
+/// count; without an F there are sixteen digits.
+#[test]
+fn format_03_ends_at_the_first_f() {
+    let mut out = [UNTOUCHED; 12];
+    assert_eq!(read_block(3, &bytes("12 34 F0 AB CD EF 01 23"), ACCOUNT, &mut out), done(4));
+    assert_eq!(out[..5], [1, 2, 3, 4, UNTOUCHED]);
+    assert_reading_refused(3, "12 3F FF FF FF FF FF FF", 24);
+    assert_reading_refused(3, "12 AF FF FF FF FF FF FF", 20);
+    assert_reading_refused(3, "12 34 56 78 90 12 3F FF", 24);
+    assert_reading_refused(3, "12 34 56 78 90 12 34 56", 24);
+    assert_reading_refused(3, "12 34 56 78 90 12 34 5E", 20);
+}
+
+#[test]
+fn reading_judges_in_order() {
+    let block = bytes("23 12 3F FF FF FF FF FF");
+    let mut out = [UNTOUCHED; 12];
+    assert_eq!(read_block(99, &block[1..], b"", &mut out[1..]), refused(901));
+    assert_eq!(read_block(99, &block[1..], ACCOUNT, &mut out), refused(15));
+    assert_eq!(read_block(99, &block, b"40000012345:", &mut out), refused(15));
+    assert_eq!(read_block(99, &block, b"4000001234560", &mut out), refused(15));
+    assert_eq!(read_block(99, &block, ACCOUNT, &mut out), refused(23));
+    assert_eq!(read_block(256 + 34, &block, ACCOUNT, &mut out), refused(23));
+    for known in [41, 42, 48] {
+        assert_eq!(read_block(known, &block, ACCOUNT, &mut out), refused(69));
+    }
+    assert_eq!(out, [UNTOUCHED; 12]);
+}
+
+/// "24 before 20 for a PIN to be written".
+#[test]
+fn writing_judges_in_order() {
+    let mut out = [UNTOUCHED; 8];
+    assert_eq!(write_block(2, &[10], b"", &[], &mut out[1..]), refused(901));
+    assert_eq!(write_block(2, &[10], b"", NO_FILL, &mut out), refused(15));
+    assert_eq!(write_block(2, &[10], ACCOUNT, &NO_FILL[1..], &mut out), refused(15));
+    assert_eq!(write_block(2, &[10], ACCOUNT, NO_FILL, &mut out), refused(23));
+    assert_eq!(write_block(42, &[10], ACCOUNT, NO_FILL, &mut out), refused(69));
+    assert_eq!(write_block(1, &[10; 3], ACCOUNT, NO_FILL, &mut out), refused(24));
+    assert_eq!(write_block(1, &[10; 13], ACCOUNT, NO_FILL, &mut out), refused(24));
+    assert_eq!(write_block(1, &[1, 2, 3, 10], ACCOUNT, NO_FILL, &mut out), refused(20));
+    assert_eq!(out, [UNTOUCHED; 8]);
+}
+
+fn translated(restricted: u8, from: u32, to: u32, block: &str) -> (Reply, Vec<u8>) {
+    let mut out = vec![UNTOUCHED; 8];
+    let settings = Settings::of_face(99, restricted, 0);
+    let reply = translate(settings, from, to, &bytes(block), ACCOUNT, NO_FILL, &mut out);
+    (reply, out)
+}
+
+#[test]
+fn translation_keeps_the_pin() {
+    let (reply, block) = translated(0, 3, 35, "34 56 7F FF FF FF FF FF");
+    assert_eq!((reply, block), (done(8), bytes("25 34 16 7F FF ED CB A9")));
+    let (reply, block) = translated(255, 1, 47, "05 34 16 7F FF ED CB A9");
+    assert_eq!((reply, block), (done(8), bytes("35 34 16 7A AA B8 9E FC")));
+}
+
+/// "at 23 and at 69 the reading format comes first", then the pair, then the block.
+#[test]
+fn translation_judges_formats_first() {
+    let wrong_block = "F0 00 00 00 00 00 00 00";
+    let untouched = vec![UNTOUCHED; 8];
+    for (restricted, from, to, number) in [
+        (1, 41, 0, 23),
+        (1, 0, 41, 23),
+        (0, 41, 1, 69),
+        (0, 1, 41, 69),
+        (1, 1, 5, 69),
+        (1, 1, 47, 20),
+    ] {
+        let answer = translated(restricted, from, to, wrong_block);
+        assert_eq!(answer, (refused(number), untouched.clone()));
+    }
+}
+
+/// "Restricted: 05 to 01, 47, 05; 01 and 47 to 01, 47; every other built pair is 69."
+#[test]
+fn restricted_pairs() {
+    let built = [1, 3, 5, 34, 35, 47];
+    let allowed = [(5, 1), (5, 47), (5, 5), (1, 1), (1, 47), (47, 1), (47, 47)];
+    for (from, to) in built.iter().flat_map(|from| built.map(|to| (*from, to))) {
+        let mut block = [0; 8];
+        assert_eq!(write_block(from, &[1; 4], ACCOUNT, NO_FILL, &mut block), done(8));
+        let settings = Settings { restricted: true, ..Settings::usual() };
+        let reply = translate(settings, from, to, &block, ACCOUNT, NO_FILL, &mut [0; 8]);
+        let expected = if allowed.contains(&(from, to)) { done(8) } else { refused(69) };
+        assert_eq!(reply, expected, "{from} to {to}");
+        let reply = translate(Settings::usual(), from, to, &block, ACCOUNT, NO_FILL, &mut [0; 8]);
+        assert_eq!(reply, done(8), "{from} to {to}");
+    }
+}
