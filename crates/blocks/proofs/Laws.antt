@@ -1,0 +1,342 @@
+-- Laws of reading and writing that the functions and their callers cite.
+-- Assumes nothing.
+use Prim.Native.Nat.{ℕ, zero, suc, _+_, _-_, _*_, _^_, _≤_, _<_}
+use native.Mathlib.Omega.{arith}
+use native.Mathlib.Nat.{mod-eq-of-lt, mod-lt}
+use mathlib.Core.Path.{_≡_, refl, sym, ap, ap₂, _∙_, subst}
+use mathlib.Core.List.{List, [], _∷_, _++_, map}
+use mathlib.Core.Bool.{Bool, true, false, _&&_}
+use lib.ListN.{length, getD, drop, length-map, length-append, length-drop}
+use lib.Seq.{slice, take-all, length-slice}
+use lib.Dec.{leb, eqb, lit<, lit≤}
+use lib.Bits.{xor-lt}
+use borrow.Author.Tests.{leb-true}
+use Rattle.nibbles.specs.Nibbles.{row, word, nibs, packs, xors, within, every, leading}
+use Rattle.nibbles.proofs.Laws.{Below, row-length, row-below, row-word, word-row, leading-take, inside-high, below-weaken, and-left, nibs-length, nibs-below, nibs-packs, packs-length, run-whole, run-broken, map-at, word-none, below-drop, word-lt, word-append}
+use Rattle.numbers.specs.Numbers.{Outcome, done, refused, andThen, unless}
+use Rattle.numbers.specs.declared.Refusal.{Refusal}
+use Rattle.numbers.specs.declared.Refusal.the-variants.{Block20, Length24, Room901}
+use Rattle.formats.specs.Formats.{leadOf, leadWidth, leads, filled, fillRead, fillWritten, fits, veiled, codeOf, formatOf}
+use Rattle.formats.specs.declared.Format.{Format}
+use Rattle.formats.specs.declared.Format.the-variants.{F01, F03, F05, F34, F35, F47}
+use Rattle.formats.specs.declared.Lead.{Lead}
+use Rattle.formats.specs.declared.Lead.the-variants.{Bare, Control}
+use Rattle.formats.specs.declared.Fill.{Fill}
+use Rattle.formats.specs.declared.Fill.the-variants.{F, AToF, Any}
+use Rattle.pins.specs.Pins.{digit, pinLength, pinHanded, sized, accountOf, accountField}
+use Rattle.pins.specs.Answers.{pinOf}
+use Rattle.pins.specs.declared.Pin.{Pin}
+use Rattle.numbers.proofs.Laws.{passed, failed, then-done, value-of}
+use Rattle.pins.proofs.Laws.{Pinned, pinned, account-done, sized-done, handed-done, pin-under}
+use Rattle.blocks.specs.Blocks.{veil, beforeF, counted, contents, readRow, readBlock, writeBlock, clearRow, writeRow}
+use Rattle.blocks.specs.Answers.{countOf, blockOf, bytesOf, Roomy, digitsOf, Proper}
+use Rattle.blocks.specs.declared.Count.the-variants.{Of, Bad}
+
+pub lead-short : (l : Lead) → leadWidth l ≤ 2
+lead-short Bare = omega arith
+lead-short (Control c) = omega arith
+
+pub filled-below : (k : Fill) (n : ℕ) → n < 16 → filled k n < 16
+filled-below F n h = lit< tt
+filled-below AToF n h = let m = mod-lt n {m = 6} (lit< tt) in omega arith
+filled-below Any n h = h
+
+-- the word of a proper PIN's digits is the word it holds
+pub digits-word : (p : Pin) → Proper p → word (digitsOf p) ≡ p .digits
+digits-word p h = word-row (p .length) (p .digits) ∙ mod-eq-of-lt (h .clean)
+
+-- a count that is no refusal
+pub count-of : (o : Outcome ℕ) (n : ℕ) → Of n ≡ countOf o → o ≡ done n
+count-of (done m) n e = cc
+count-of (refused q) n e = absurd (let z : _≡_ {A = ℕ} 0 1 = cc in omega arith)
+
+pub count-bad : (o : Outcome ℕ) (q : Refusal) → Bad q ≡ countOf o → o ≡ refused q
+count-bad (done m) q e = absurd (let z : _≡_ {A = ℕ} 0 1 = cc in omega arith)
+count-bad (refused p) q e = cc
+
+-- a count is refused for its contents only
+pub counted-refused : (l : Lead) (ns : List ℕ) (q : Refusal) → counted l ns ≡ refused q → counted l ns ≡ refused Block20
+counted-refused Bare ns q e = failed Block20 q (every digit (beforeF ns)) (length (beforeF ns)) e .1
+counted-refused (Control c) ns q e = failed Block20 q (eqb (getD ns 0 0) c) (getD ns 1 0) e .1
+
+-- what stands before the first F is a part of the row
+pub before-part : (w : ℕ) → beforeF (row 16 w) ≡ slice 0 (length (beforeF (row 16 w))) (row 16 w)
+before-part w = leading-take (within 0 14) (row 16 w)
+
+pub whole-row : (w : ℕ) → slice 0 16 (row 16 w) ≡ row 16 w
+whole-row w = take-all 16 (row 16 w) (rw (row-length 16 w) (lit≤ tt))
+
+module _ (f : Format) (w n from : ℕ) (here : from ≡ leadWidth (leadOf f)) (small : n ≤ 12) where
+  -- where the digits and the fill stand in the row
+  pub digits-end : from + n ≤ 16
+  digits-end = let s = lead-short (leadOf f) in omega arith
+
+  pub wrong-digits : from + length (leading digit (slice from (from + n) (row 16 w))) < from + n → contents f (row 16 w) n ≡ refused Block20
+  unfolding contents
+  wrong-digits h =
+      rw (← here, run-broken digit (row 16 w) from (from + n) (omega arith) (rw (row-length 16 w) digits-end) h)
+
+  pub wrong-fill :
+      from + n ≤ from + length (leading digit (slice from (from + n) (row 16 w)))
+      → from + n + length (leading (fits (fillRead f)) (slice (from + n) 16 (row 16 w))) < 16
+      → contents f (row 16 w) n ≡ refused Block20
+  unfolding contents
+  wrong-fill h k =
+      rw (
+        ← here,
+        run-whole digit (row 16 w) from (from + n) (omega arith) (rw (row-length 16 w) digits-end) h,
+        run-broken (fits (fillRead f)) (row 16 w) (from + n) 16 digits-end (rw (row-length 16 w) (lit≤ tt)) k,
+      )
+
+  pub right-contents :
+      from + n ≤ from + length (leading digit (slice from (from + n) (row 16 w)))
+      → 16 ≤ from + n + length (leading (fits (fillRead f)) (slice (from + n) 16 (row 16 w)))
+      → contents f (row 16 w) n ≡ done (slice from (from + n) (row 16 w))
+  unfolding contents
+  right-contents h k =
+      rw (
+        ← here,
+        run-whole digit (row 16 w) from (from + n) (omega arith) (rw (row-length 16 w) digits-end) h,
+        run-whole (fits (fillRead f)) (row 16 w) (from + n) 16 digits-end (rw (row-length 16 w) (lit≤ tt)) k,
+      )
+
+-- ---- the fill, place by place
+
+filled-each : (k : Fill) (ns : List ℕ) → Below 16 ns → Below 16 (map (filled k) ns)
+filled-each k [] b = tt
+filled-each k (n ∷ ns) b = (filled-below k n (b .0), filled-each k ns (b .1))
+
+module _ (k : Fill) (fill : ℕ) where
+  abbrev pub filledRow : List ℕ
+  filledRow = map (filled k) (row 16 fill)
+
+  pub filled-length : length filledRow ≡ 16
+  filled-length = length-map (row 16 fill) (filled k) ∙ row-length 16 fill
+
+  pub filled-row-below : Below 16 filledRow
+  filled-row-below = filled-each k (row 16 fill) (row-below 16 fill)
+
+  pub filled-at : (i : ℕ) → i < 16 → filled k (getD (row 16 fill) i 0) ≡ getD filledRow i 0
+  filled-at i h = sym (map-at (filled k) (row 16 fill) i 0 0 (rw (row-length 16 fill) h))
+
+  pub filled-none : 0 ≡ word (drop 16 filledRow)
+  filled-none = word-none filledRow ∙ ap (λ (n : ℕ). word (drop n filledRow)) filled-length
+
+  -- the fill from a place on, and no more
+  pub filled-from : (from : ℕ) → drop from filledRow ≡ map (filled k) (drop from (row 16 fill))
+  filled-from from = drop-map (filled k) from (row 16 fill)
+    where
+      drop-map : (g : ℕ → ℕ) (n : ℕ) (xs : List ℕ) → drop n (map g xs) ≡ map g (drop n xs)
+      drop-map g zero xs = refl
+      drop-map g (suc n) [] = refl
+      drop-map g (suc n) (x ∷ xs) = drop-map g n xs
+
+-- ---- reading, from the clear row on
+
+pub read-clear :
+    (f : Format) (with ns clear : List ℕ) → clear ≡ veil (veiled f) with ns
+    → readRow f with ns ≡ andThen (counted (leadOf f) clear) (λ n. andThen (pinLength n) (contents f clear))
+unfolding readRow
+read-clear f with ns clear e = ap (λ (c : List ℕ). andThen (counted (leadOf f) c) (λ n. andThen (pinLength n) (contents f c))) (sym e)
+
+-- ---- writing, to the clear row
+
+below-append : (m : ℕ) (xs ys : List ℕ) → Below m xs → Below m ys → Below m (xs ++ ys)
+below-append m [] ys b c = c
+below-append m (x ∷ xs) ys b c = (b .0, below-append m xs ys (b .1) c)
+
+-- every control is a nibble
+leads-below : (f : Format) (n : ℕ) → n < 16 → Below 16 (leads (leadOf f) n)
+leads-below F01 n h = (lit< tt, (h, tt))
+leads-below F03 n h = tt
+leads-below F05 n h = (lit< tt, (h, tt))
+leads-below F34 n h = (lit< tt, (h, tt))
+leads-below F35 n h = (lit< tt, (h, tt))
+leads-below F47 n h = (lit< tt, (h, tt))
+
+leads-length : (l : Lead) (n : ℕ) → length (leads l n) ≡ leadWidth l
+leads-length Bare n = refl
+leads-length (Control c) n = refl
+
+module _ (f : Format) (p : Pin) (proper : Proper p) (fill from : ℕ) (here : from ≡ leadWidth (leadOf f) + p .length) where
+  abbrev pub headRow : List ℕ
+  headRow = leads (leadOf f) (p .length) ++ digitsOf p
+
+  abbrev pub tailRow : List ℕ
+  tailRow = map (filled (fillWritten f)) (drop from (row 16 fill))
+
+  pub from-small : from ≤ 14
+  from-small = let s = lead-short (leadOf f) in omega (arith, proper .short)
+
+  pub head-length : length headRow ≡ from
+  head-length =
+      length-append (leads (leadOf f) (p .length)) (digitsOf p)
+      ∙ ap₂ (λ (a b : ℕ). a + b) (leads-length (leadOf f) (p .length)) (row-length (p .length) (p .digits)) ∙ sym here
+
+  pub head-below : Below 16 headRow
+  head-below = below-append 16 (leads (leadOf f) (p .length)) (digitsOf p) (leads-below f (p .length) (omega (arith, proper .short))) (row-below (p .length) (p .digits))
+
+  pub tail-length : length tailRow ≡ 16 - from
+  tail-length =
+      length-map (drop from (row 16 fill)) (filled (fillWritten f)) ∙ length-drop from (row 16 fill)
+      ∙ ap (λ (n : ℕ). n - from) (row-length 16 fill)
+
+  pub tail-below : Below 16 tailRow
+  tail-below = filled-each (fillWritten f) (drop from (row 16 fill)) (below-drop 16 from (row 16 fill) (row-below 16 fill))
+
+  pub head-under : word headRow < 16 ^ from
+  head-under = subst (λ (n : ℕ). word headRow < 16 ^ n) head-length (word-lt headRow head-below)
+
+  pub tail-under : word tailRow < 16 ^ (16 - from)
+  tail-under = subst (λ (n : ℕ). word tailRow < 16 ^ n) tail-length (word-lt tailRow tail-below)
+
+  whole : length (headRow ++ tailRow) ≡ 16
+  whole = length-append headRow tailRow ∙ (let h = head-length in let t = tail-length in let s = from-small in omega arith)
+
+  pub joined : row 16 (word tailRow * 16 ^ from + word headRow) ≡ clearRow f (digitsOf p) (row 16 fill)
+  joined =
+      ap (row 16) (sym (word-append headRow tailRow ∙ ap (λ (n : ℕ). word tailRow * 16 ^ n + word headRow) head-length))
+      ∙ ap (λ (n : ℕ). row n (word (headRow ++ tailRow))) (sym whole)
+      ∙ row-word (headRow ++ tailRow) (below-append 16 headRow tailRow head-below tail-below)
+      ∙ ap₂ (λ (n k : ℕ). leads (leadOf f) n ++ digitsOf p ++ map (filled (fillWritten f)) (drop k (row 16 fill)))
+      (sym (row-length (p .length) (p .digits)))
+      (here ∙ ap (λ (n : ℕ). leadWidth (leadOf f) + n) (sym (row-length (p .length) (p .digits))))
+
+-- ---- what a block that was read tells
+
+xors-length : (xs ys : List ℕ) → length xs ≡ length ys → length (xors xs ys) ≡ length xs
+unfolding xors
+xors-length [] ys e = refl
+xors-length (x ∷ xs) [] e = absurd (omega arith)
+xors-length (x ∷ xs) (y ∷ ys) e = ap suc (xors-length xs ys (omega arith))
+
+veil-length : (on : Bool) (with ns : List ℕ) → length with ≡ 16 → length ns ≡ 16 → length (veil on with ns) ≡ 16
+veil-length true with ns h k = xors-length ns with (k ∙ sym h) ∙ k
+veil-length false with ns h k = k
+
+pub read-pinned : (f : Format) (with ns ds : List ℕ) → length with ≡ 16 → length ns ≡ 16 → readRow f with ns ≡ done ds → Pinned ds
+unfolding readRow contents
+read-pinned f with ns ds h k e =
+    let clear = veil (veiled f) with ns in
+    let from = leadWidth (leadOf f) in
+    let t = then-done (counted (leadOf f) clear) (λ n. andThen (pinLength n) (contents f clear)) ds e in
+    let u = then-done (pinLength (t .0)) (contents f clear) ds (t .2) in
+    let n = passed Length24 (within 4 12 (t .0)) (t .0) (u .0) (u .1) in
+    let part = slice from (from + u .0) clear in
+    let p = passed Block20 (every digit part && every (fits (fillRead f)) (slice (from + u .0) 16 clear)) part ds (u .2) in
+    let small : u .0 ≤ 12 = rw (n .1) at (inside-high 4 12 (t .0) (n .0)) in
+    let s = lead-short (leadOf f) in
+    let long : length ds ≡ u .0 = ap length (sym (p .1)) ∙ length-slice from (from + u .0) clear (rw (veil-length (veiled f) with ns h k) (omega arith)) ∙ omega arith in
+    pinned ds (rw (long, ← n .1) (n .0)) (rw (← p .1) (and-left _ _ (p .0)))
+
+pub call-read : (code : ℕ) (block account : List ℕ) (room : ℕ) (ds : List ℕ) → readBlock code block account room ≡ done ds → (12 ≤ room) × Pinned ds
+unfolding readBlock
+call-read code block account room ds e =
+    let r = then-done (unless Room901 (leb 12 room) room) _ ds e in
+    let s = then-done (sized 8 block) _ ds (r .2) in
+    let k = then-done (accountOf account) _ ds (s .2) in
+    let f = then-done (formatOf (codeOf code)) _ ds (k .2) in
+    let b = sized-done 8 block (s .0) (s .1) in
+    let n = account-done account (k .0) (k .1) in (
+      leb-true 12 room (passed Room901 (leb 12 room) room (r .0) (r .1) .0),
+      read-pinned (f .0) (accountField (k .0)) (s .0) ds (omega (arith, n .0)) (ap length (sym (b .1)) ∙ nibs-length block ∙ (let l = b .0 in omega arith)) (f .2),
+    )
+
+-- ---- what is written is a row of sixteen nibbles
+
+pub record Sixteen (ns : List ℕ) : Type 0 where
+  pub long : length ns ≡ 16
+  pub nibbles : Below 16 ns
+
+xors-below : (xs ys : List ℕ) → Below 16 xs → Below 16 ys → Below 16 (xors xs ys)
+unfolding xors
+xors-below [] ys b c = tt
+xors-below (x ∷ xs) [] b c = tt
+xors-below (x ∷ xs) (y ∷ ys) b c = (xor-lt 4 x y (b .0) (c .0), xors-below xs ys (b .1) (c .1))
+
+veil-below : (on : Bool) (with ns : List ℕ) → Below 16 with → Below 16 ns → Below 16 (veil on with ns)
+veil-below true with ns b c = xors-below ns with c b
+veil-below false with ns b c = c
+
+pub written-row : (f : Format) (with ds fill : List ℕ) → Sixteen with → Pinned ds → Sixteen fill → Sixteen (writeRow f with ds fill)
+unfolding writeRow
+written-row f with ds fill w p s =
+    let from = leadWidth (leadOf f) + length ds in
+    let rest = map (filled (fillWritten f)) (drop from fill) in
+    let front = leads (leadOf f) (length ds) ++ ds in
+    let head : length front ≡ from = length-append (leads (leadOf f) (length ds)) ds ∙ ap (λ (n : ℕ). n + length ds) (leads-length (leadOf f) (length ds)) in
+    let tail : length rest ≡ 16 - from = length-map (drop from fill) (filled (fillWritten f)) ∙ length-drop from fill ∙ ap (λ (n : ℕ). n - from) (s .long) in
+    let short = lead-short (leadOf f) in
+    let whole : length (clearRow f ds fill) ≡ 16 = length-append front rest ∙ omega (arith, p .short) in
+    record {
+      long = veil-length (veiled f) with (clearRow f ds fill) (w .long) whole;
+      nibbles = veil-below (veiled f) with (clearRow f ds fill) (w .nibbles)
+          (below-append 16 front rest (below-append 16 (leads (leadOf f) (length ds)) ds (leads-below f (length ds) (omega (arith, p .short))) (below-weaken 10 16 ds (lit≤ tt) (p .digits)))
+          (filled-each (fillWritten f) (drop from fill) (below-drop 16 from fill (s .nibbles))));
+    }
+
+-- the field of an account, and the nibbles of eight bytes
+pub field-sixteen : (account digits : List ℕ) → accountOf account ≡ done digits → Sixteen (accountField digits)
+field-sixteen account digits e =
+    let n = account-done account digits e in
+    record { long = omega (arith, n .0); nibbles = (lit< tt, (lit< tt, (lit< tt, (lit< tt, n .1)))) }
+
+pub bytes-sixteen : (bs ns : List ℕ) → Below 256 bs → sized 8 bs ≡ done ns → Sixteen ns
+bytes-sixteen bs ns b e =
+    let s = sized-done 8 bs ns e in
+    rw (← s .1) (record { long = nibs-length bs ∙ (let n = s .0 in omega arith); nibbles = nibs-below bs b })
+
+-- a row's word holds it, and its bytes are eight
+pub sixteen-word : (ns : List ℕ) → Sixteen ns → row 16 (word ns) ≡ ns
+sixteen-word ns s = ap (λ (n : ℕ). row n (word ns)) (sym (s .long)) ∙ row-word ns (s .nibbles)
+
+pub sixteen-nibs : (ns : List ℕ) → Sixteen ns → nibs (packs ns) ≡ ns
+sixteen-nibs ns s = nibs-packs 8 ns (s .long) (s .nibbles)
+
+pub sixteen-bytes : (ns : List ℕ) → Sixteen ns → length (packs ns) ≡ 8
+sixteen-bytes ns s = packs-length 8 ns (s .long)
+
+-- the call's block is the bytes of such a row
+pub call-written : (code : ℕ) (pin account fill : List ℕ) (room : ℕ) (bs : List ℕ) → Below 256 fill → writeBlock code pin account fill room ≡ done bs → (8 ≤ room) × ((ns : List ℕ) × Sixteen ns × (bs ≡ packs ns))
+unfolding writeBlock
+call-written code pin account fill room bs b e =
+    let r = then-done (unless Room901 (leb 8 room) room) _ bs e in
+    let k = then-done (accountOf account) _ bs (r .2) in
+    let s = then-done (sized 8 fill) _ bs (k .2) in
+    let f = then-done (formatOf (codeOf code)) _ bs (s .2) in
+    let p = then-done (pinHanded pin) _ bs (f .2) in
+    let h = handed-done pin (p .0) (p .1) in (
+      leb-true 8 room (passed Room901 (leb 8 room) room (r .0) (r .1) .0),
+      (
+        writeRow (f .0) (accountField (k .0)) (p .0) (s .0),
+        written-row (f .0) (accountField (k .0)) (p .0) (s .0) (field-sixteen account (k .0) (k .1)) (rw (h .0) at (h .1)) (bytes-sixteen fill (s .0) b (s .1)),
+        sym (value-of (p .2)),
+      ),
+    )
+
+-- a PIN that was judged is proper
+pub proper : (ds : List ℕ) → Pinned ds → Proper (pinOf ds)
+proper ds p = record { short = p .short; clean = pin-under ds p }
+
+-- a word that holds a row is the word of the row's bytes
+pub row-held-by : (w : ℕ) (ns : List ℕ) → w < 2 ^ 64 → row 16 w ≡ ns → w ≡ word (nibs (packs ns))
+row-held-by w ns h e =
+    let s : Sixteen ns = rw (← e) (record { long = row-length 16 w; nibbles = row-below 16 w }) in
+    sym (ap word (sixteen-nibs ns s ∙ sym e) ∙ word-row 16 w ∙ mod-eq-of-lt h)
+
+-- ---- an outcome that is a block, as the answer that is written
+
+-- its value, where it has one, is the bytes of a row of sixteen nibbles, and there is room for it
+abbrev pub Blocky : Outcome (List ℕ) → ℕ → Type 0
+Blocky o room = (bs : List ℕ) → o ≡ done bs → (8 ≤ room) × ((ns : List ℕ) × Sixteen ns × (bs ≡ packs ns))
+
+pub answered : (o : Outcome (List ℕ)) (room : ℕ) → Blocky o room → bytesOf (blockOf o) ≡ o
+answered (done bs) room b =
+    let p = b bs refl in
+    let e : nibs bs ≡ p .1 .0 = ap nibs (p .1 .2) ∙ sixteen-nibs (p .1 .0) (p .1 .1) in
+    ap done (ap (λ (ns : List ℕ). packs (row 16 (word ns))) e ∙ ap packs (sixteen-word (p .1 .0) (p .1 .1)) ∙ sym (p .1 .2))
+answered (refused q) room b = refl
+
+pub roomy : (o : Outcome (List ℕ)) (room : ℕ) → Blocky o room → Roomy (blockOf o) room
+roomy (done bs) room b = b bs refl .0
+roomy (refused q) room b = tt

@@ -1,0 +1,41 @@
+-- `blocks::write_block` meets its contract.
+-- Assumes nothing.
+use mathlib.Core.Path.{ap, sym, _∙_, subst}
+use lib.ListN.{length}
+use borrow.Author.Needs.{needs}
+use Rattle.blocks.proofs.Laws.{call-written, Blocky, answered, roomy}
+use Rattle.blocks.specs.Answers.{Roomy, bytesOf}
+use Rattle.blocks.specs.Blocks.{writeBlock}
+use Rattle.pins.specs.declared.Row.{Row}
+use Rattle.numbers.proofs.Laws.{does-as}
+use Rattle.nibbles.proofs.Laws.{bytes-below}
+use Rattle.blocks.proofs.write_block.Statement.{statement}
+use Rattle.blocks.proofs.write_block.Tie as tie
+
+judged-writing-requires : tie.Need-judged-writing-requires
+judged-writing-requires c κs = search needs
+
+answer-requires : tie.Need-answer-requires
+answer-requires c κs =
+    let a = c .before .before .before .before .before .before .args in
+    let o = writeBlock (a .format) (a .pin .now) (a .account .now) (a .fill .now) (length (a .out .now)) in
+    let b = call-written (a .format) (a .pin .now) (a .account .now) (a .fill .now) (length (a .out .now)) in
+    let fill = bytes-below (a .fill .now) (c .before .before .before .shared-slice-known3 .given) in
+    let blocky : Blocky o (length (a .out .now)) = λ bs e. b bs fill e in
+    subst (λ (j : Row). Roomy j (length (a .out .now))) (sym (c .before .judged-writing .ensures)) (roomy o (length (a .out .now)) blocky)
+
+same-length : tie.Need-same-length
+same-length c = search needs
+
+returns : tie.Need-returns
+returns c =
+    let a = c .before .before .before .before .before .before .before .before .before .args in
+    let o = writeBlock (a .format) (a .pin .now) (a .account .now) (a .fill .now) (length (a .out .now)) in
+    let b = call-written (a .format) (a .pin .now) (a .account .now) (a .fill .now) (length (a .out .now)) in
+    let fill = bytes-below (a .fill .now) (c .before .before .before .before .before .before .shared-slice-known3 .given) in
+    let blocky : Blocky o (length (a .out .now)) = λ bs e. b bs fill e in
+    let same = ap bytesOf (c .before .before .before .before .judged-writing .ensures) ∙ answered o (length (a .out .now)) blocky in
+    does-as _ o same (c .before .before .answer .ensures)
+
+pub write-block-spec : {M : Type 1} → statement M
+write-block-spec = tie.close (tie.spec judged-writing-requires answer-requires same-length returns)

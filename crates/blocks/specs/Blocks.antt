@@ -1,0 +1,72 @@
+-- Reading and writing a block, as rows of sixteen nibbles. The veil is any row that is XORed in where the format says so.
+use Prim.Native.Nat.{ℕ, _+_}
+use mathlib.Core.List.{List, _++_, map}
+use mathlib.Core.Bool.{Bool, true, false, _&&_}
+use lib.ListN.{length, getD, drop}
+use lib.Seq.{slice}
+use lib.Dec.{leb, eqb}
+use Rattle.nibbles.specs.Nibbles.{packs, xors, within, every, leading}
+use Rattle.numbers.specs.Numbers.{Outcome, done, andThen, unless}
+use Rattle.numbers.specs.declared.Refusal.the-variants.{Block20, Room901}
+use Rattle.formats.specs.Formats.{leadOf, fillRead, fillWritten, veiled, leads, leadWidth, fits, filled, codeOf, formatOf, blockWidth}
+use Rattle.pins.specs.Pins.{digit, pinLength, pinHanded, accountOf, accountField, sized}
+use Rattle.formats.specs.declared.Format.{Format}
+use Rattle.formats.specs.declared.Lead.{Lead}
+use Rattle.formats.specs.declared.Lead.the-variants.{Bare, Control}
+
+-- with the veil on, or taken off again: "XOR with account field"
+abbrev pub veil : Bool → List ℕ → List ℕ → List ℕ
+veil true with ns = xors ns with
+veil false with ns = ns
+
+-- "digits, then F. Its PIN ends at the first F"
+abbrev pub beforeF : List ℕ → List ℕ
+beforeF ns = leading (within 0 14) ns
+
+-- how many digits a clear block says it has. "Reading judges C (20)", and N says it; where nothing leads, the nibbles before the
+-- first F do, and "A to E before the first F is 20"
+abbrev pub counted : Lead → List ℕ → Outcome ℕ
+counted Bare ns = unless Block20 (every digit (beforeF ns)) (length (beforeF ns))
+counted (Control c) ns = unless Block20 (eqb (getD ns 0 0) c) (getD ns 1 0)
+
+-- "then digits and fill (20)": n digits behind the lead, and fill to the end
+unfoldable pub contents : Format → List ℕ → ℕ → Outcome (List ℕ)
+contents f ns n =
+    let from = leadWidth (leadOf f) in
+    unless Block20 (every digit (slice from (from + n) ns) && every (fits (fillRead f)) (slice (from + n) 16 ns))
+    (slice from (from + n) ns)
+
+-- "Reading judges C (20), N (24), then digits and fill (20)"
+unfoldable pub readRow : Format → List ℕ → List ℕ → Outcome (List ℕ)
+readRow f with ns =
+    let clear = veil (veiled f) with ns in
+    andThen (counted (leadOf f) clear) (λ n. andThen (pinLength n) (contents f clear))
+
+-- the clear block of a PIN: C and N, the digits, then "fill bytes, used nibble for nibble at the fill's own places"
+abbrev pub clearRow : Format → List ℕ → List ℕ → List ℕ
+clearRow f ds fill =
+    let n = length ds in
+    leads (leadOf f) n ++ ds ++ map (filled (fillWritten f)) (drop (leadWidth (leadOf f) + n) fill)
+
+-- writing
+unfoldable pub writeRow : Format → List ℕ → List ℕ → List ℕ → List ℕ
+writeRow f with ds fill = veil (veiled f) with (clearRow f ds fill)
+
+-- the call that reads a block: 901, 15 for block and account, 23, 69, the block
+unfoldable pub readBlock : ℕ → List ℕ → List ℕ → ℕ → Outcome (List ℕ)
+readBlock code block account room =
+    andThen (unless Room901 (leb 12 room) room)
+    (λ _. andThen (sized (blockWidth code) block)
+    (λ ns. andThen (accountOf account)
+    (λ digits. andThen (formatOf (codeOf code))
+    (λ f. readRow f (accountField digits) ns))))
+
+-- the call that writes a block: 901, 15 for account and fill, 23, 69, 24, 20
+unfoldable pub writeBlock : ℕ → List ℕ → List ℕ → List ℕ → ℕ → Outcome (List ℕ)
+writeBlock code pin account fill room =
+    andThen (unless Room901 (leb (blockWidth code) room) room)
+    (λ _. andThen (accountOf account)
+    (λ digits. andThen (sized 8 fill)
+    (λ fs. andThen (formatOf (codeOf code))
+    (λ f. andThen (pinHanded pin)
+    (λ ds. done (packs (writeRow f (accountField digits) ds fs)))))))

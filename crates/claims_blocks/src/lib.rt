@@ -1,0 +1,1 @@
+// The demands about PIN blocks, as laws over the definitions.

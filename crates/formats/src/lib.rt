@@ -1,0 +1,199 @@
+// The table of PIN block formats, and the codes that name them.
+ghost use mathlib.Core.Path.{_≡_};
+ghost use Rattle.formats.specs.Formats.{leadOf, fillRead, fillWritten, veiled, leadWidth, leastFill, filled, codeOf, isKnown, formatOf, blockWidth, is01or47};
+ghost use Rattle.formats.specs.Answers.{chosenOf, refusalIn};
+use numbers::Refusal;
+
+pub enum Format {
+    F01,
+    F03,
+    F05,
+    F34,
+    F35,
+    F47,
+}
+
+// What a format code names.
+pub enum Code {
+    Built(Format),
+    Known,
+    Unknown,
+}
+
+// The format of a code, or why it has none here.
+pub enum Chosen {
+    Of(Format),
+    Bad(Refusal),
+}
+
+// What leads the digits: nothing, or C and the PIN's length.
+pub enum Lead {
+    Bare,
+    Control(u8),
+}
+
+// The nibbles behind the digits.
+pub enum Fill {
+    F,
+    AToF,
+    Any,
+}
+
+impl Format {
+    pub fn lead(self) -> Lead
+        ensures { λ r. ⌜ r ≡ leadOf self ⌝ }
+    {
+        match self {
+            Format::F01 => Lead::Control(0),
+            Format::F03 => Lead::Bare,
+            Format::F05 => Lead::Control(1),
+            Format::F34 => Lead::Control(2),
+            Format::F35 => Lead::Control(2),
+            Format::F47 => Lead::Control(3),
+        }
+    }
+
+    pub fn fill_read(self) -> Fill
+        ensures { λ r. ⌜ r ≡ fillRead self ⌝ }
+    {
+        match self {
+            Format::F01 => Fill::F,
+            Format::F03 => Fill::Any,
+            Format::F05 => Fill::Any,
+            Format::F34 => Fill::F,
+            Format::F35 => Fill::F,
+            Format::F47 => Fill::AToF,
+        }
+    }
+
+    pub fn fill_written(self) -> Fill
+        ensures { λ r. ⌜ r ≡ fillWritten self ⌝ }
+    {
+        match self {
+            Format::F01 => Fill::F,
+            Format::F03 => Fill::F,
+            Format::F05 => Fill::Any,
+            Format::F34 => Fill::F,
+            Format::F35 => Fill::F,
+            Format::F47 => Fill::AToF,
+        }
+    }
+
+    pub fn veiled(self) -> bool
+        ensures { λ r. ⌜ r ≡ veiled self ⌝ }
+    {
+        match self {
+            Format::F01 => true,
+            Format::F03 => false,
+            Format::F05 => false,
+            Format::F34 => false,
+            Format::F35 => true,
+            Format::F47 => true,
+        }
+    }
+
+    pub fn is_01_or_47(self) -> bool
+        ensures { λ r. ⌜ r ≡ is01or47 self ⌝ }
+    {
+        match self {
+            Format::F01 => true,
+            Format::F03 => false,
+            Format::F05 => false,
+            Format::F34 => false,
+            Format::F35 => false,
+            Format::F47 => true,
+        }
+    }
+}
+
+impl Lead {
+    pub fn width(self) -> usize
+        ensures { λ r. ⌜ r ≡ leadWidth self ⌝ }
+    {
+        match self {
+            Lead::Bare => 0,
+            Lead::Control(_) => 2,
+        }
+    }
+}
+
+impl Fill {
+    pub fn least(self) -> u64
+        ensures { λ r. ⌜ r ≡ leastFill self ⌝ }
+    {
+        match self {
+            Fill::F => 15,
+            Fill::AToF => 10,
+            Fill::Any => 0,
+        }
+    }
+
+    pub fn filled(self, n: u64) -> u64
+        ensures { λ r. ⌜ r ≡ filled self n ⌝ }
+    {
+        match self {
+            Fill::F => 15,
+            Fill::AToF => 10 + n % 6,
+            Fill::Any => n,
+        }
+    }
+}
+
+impl Code {
+    pub fn of(code: u32) -> Code
+        ensures { λ r. ⌜ r ≡ codeOf code ⌝ }
+    {
+        match code {
+            1 => Code::Built(Format::F01),
+            3 => Code::Built(Format::F03),
+            5 => Code::Built(Format::F05),
+            34 => Code::Built(Format::F34),
+            35 => Code::Built(Format::F35),
+            47 => Code::Built(Format::F47),
+            41 => Code::Known,
+            42 => Code::Known,
+            48 => Code::Known,
+            _ => Code::Unknown,
+        }
+    }
+
+    pub fn is_known(self) -> bool
+        ensures { λ r. ⌜ r ≡ isKnown self ⌝ }
+    {
+        match self {
+            Code::Built(_) => true,
+            Code::Known => true,
+            Code::Unknown => false,
+        }
+    }
+}
+
+impl Chosen {
+    // The format that a code names: 23, then 69.
+    pub fn by(code: u32) -> Chosen
+        ensures { λ r. ⌜ r ≡ chosenOf (formatOf (codeOf code)) ⌝ }
+    {
+        match Code::of(code) {
+            Code::Built(f) => Chosen::Of(f),
+            Code::Known => Chosen::Bad(Refusal::NotHere69),
+            Code::Unknown => Chosen::Bad(Refusal::Format23),
+        }
+    }
+
+    // Why there is no format; asked only where there is none.
+    pub fn refusal(self) -> Refusal
+        ensures { λ r. ⌜ r ≡ refusalIn self ⌝ }
+    {
+        match self {
+            Chosen::Of(_) => Refusal::NotHere69,
+            Chosen::Bad(q) => q,
+        }
+    }
+}
+
+// The bytes of a block; every format that is built has eight.
+pub fn block_width(code: u32) -> usize
+    ensures { λ r. ⌜ r ≡ blockWidth code ⌝ }
+{
+    8
+}

@@ -1,0 +1,135 @@
+// PINs, accounts and blocks as values: rows of nibbles in words. Each is judged by one routine.
+ghost use mathlib.Core.Path.{_≡_};
+ghost use mathlib.Core.List.{map};
+ghost use Prim.Native.Nat.{_^_, _<_, _≤_};
+ghost use lib.ListN.{length};
+ghost use Rattle.nibbles.specs.Nibbles.{word, row};
+ghost use Rattle.alphabet.specs.Alphabet.{valueOf};
+ghost use Rattle.pins.specs.Pins.{pinHanded, digitsHanded, accountOf, accountField, sized};
+ghost use Rattle.pins.specs.Answers.{readingOf, rowOf, refusalIn, refusedIn};
+use alphabet::Class;
+use numbers::Refusal;
+
+// A PIN as a value: its digits are a row in a word, the first lowest.
+pub struct Pin {
+    pub length: usize,
+    pub digits: u64,
+}
+
+// A PIN that was read from a block or handed in, or why there is none.
+pub enum Reading {
+    Got(Pin),
+    Bad(Refusal),
+}
+
+// A row of nibbles in a word, or why there is none.
+pub enum Row {
+    Held(u64),
+    Refused(Refusal),
+}
+
+impl Reading {
+    // Why there is no PIN; asked only where there is none.
+    pub fn refusal(self) -> Refusal
+        ensures { λ r. ⌜ r ≡ refusalIn self ⌝ }
+    {
+        match self {
+            Reading::Got(_) => Refusal::Block20,
+            Reading::Bad(q) => q,
+        }
+    }
+}
+
+impl Row {
+    // Why there is no row; asked only where there is none.
+    pub fn refusal(self) -> Refusal
+        ensures { λ r. ⌜ r ≡ refusedIn self ⌝ }
+    {
+        match self {
+            Row::Held(_) => Refusal::Field15,
+            Row::Refused(q) => q,
+        }
+    }
+}
+
+// A run of bytes that has to have a width, as a row of nibbles.
+pub fn sized_row(bytes: &[u8], width: usize) -> Row
+    requires { ⌜ width ≤ 8 ⌝ }
+    ensures { λ r. ⌜ r ≡ rowOf (sized width (now (bytes .entry))) ⌝ }
+{
+    if bytes.len() != width {
+        return Row::Refused(Refusal::Field15);
+    }
+    Row::Held(nibbles::row_of(bytes))
+}
+
+// The values of at most sixteen characters, as a row.
+pub fn values(s: &[u8]) -> u64
+    requires { ⌜ length (now s) ≤ 16 ⌝ }
+    ensures { λ r. ⌜ r ≡ word (map valueOf (now (s .entry))) ⌝ }
+{
+    let mut w: u64 = 0;
+    let mut i = s.len();
+    while 0 < i {
+        i -= 1;
+        w = w * 16 + alphabet::value(s[i]) as u64;
+    }
+    w
+}
+
+// The account's digits.
+pub fn account(characters: &[u8]) -> Row
+    ensures { λ r. ⌜ r ≡ rowOf (accountOf (now (characters .entry))) ⌝ }
+{
+    if characters.len() != 12 {
+        return Row::Refused(Refusal::Field15);
+    }
+    if !alphabet::all_of(Class::Digit, characters, 0, 12) {
+        return Row::Refused(Refusal::Field15);
+    }
+    Row::Held(values(characters))
+}
+
+// The account field, a row of sixteen.
+pub fn field(digits: u64) -> u64
+    requires { ⌜ digits < 16 ^ 12 ⌝ }
+    ensures { λ r. ⌜ r ≡ word (accountField (row 12 digits)) ⌝ }
+{
+    digits * 65536
+}
+
+// A PIN handed in as digits: its length is judged before its digits.
+pub fn handed(digits: &[u8]) -> Reading
+    ensures { λ r. ⌜ r ≡ readingOf (pinHanded (now (digits .entry))) ⌝ }
+{
+    let n = digits.len();
+    if n < 4 {
+        return Reading::Bad(Refusal::Length24);
+    }
+    if 12 < n {
+        return Reading::Bad(Refusal::Length24);
+    }
+    packed(digits)
+}
+
+// The digits of a PIN that has its right length.
+fn packed(digits: &[u8]) -> Reading
+    requires { ⌜ length (now digits) ≤ 12 ⌝ }
+    ensures { λ r. ⌜ r ≡ readingOf (digitsHanded (now (digits .entry))) ⌝ }
+{
+    let n = digits.len();
+    let mut w: u64 = 0;
+    let mut i = n;
+    while 0 < i {
+        i -= 1;
+        let digit = digits[i];
+        if 9 < digit {
+            return Reading::Bad(Refusal::Block20);
+        }
+        w = w * 16 + digit as u64;
+    }
+    Reading::Got(Pin {
+        length: n,
+        digits: w,
+    })
+}
