@@ -1,6 +1,6 @@
 -- Which characters a class admits, and a character's value.
-use Prim.Native.Nat.{ℕ, _-_, _%_}
-use mathlib.Core.List.{List, [], _∷_}
+use Prim.Native.Nat.{ℕ, _+_, _-_, _%_}
+use mathlib.Core.List.{List, [], _∷_, map}
 use mathlib.Core.Bool.{Bool, true, _&&_, _||_, cond}
 use lib.Dec.{leb}
 use Rattle.alphabet.specs.declared.Class.{Class}
@@ -24,3 +24,7 @@ allOf k (c ∷ cs) = admits k c && allOf k cs
 -- a digit's or a hex letter's value, as a nibble
 unfoldable pub valueOf : ℕ → ℕ
 valueOf c = cond (leb 0x41 c) (c - 0x37) (c - 0x30) % 16
+
+-- digits as characters
+abbrev pub characters : List ℕ → List ℕ
+characters ds = map (λ d. 0x30 + d) ds

@@ -15,8 +15,8 @@ use lib.Arith.{digits-div, digits-mod, digits-lt, mod-mul, bin-ind}
 use lib.Bits.{bitXor, xor-shr, xor-mod, xor-zero-l, xor-self, xor-step, differ}
 use mir.Val.{Fits}
 use mir.Syntax.{w8}
-use borrow.Author.Tests.{lt-leb, le-leb, leb-true, eq-eqb, ne-eqb}
-use Rattle.nibbles.specs.Nibbles.{nibs, packs, xors, word, row, every, leading, within}
+use borrow.Author.Tests.{lt-leb, le-leb, leb-true, eq-eqb, ne-eqb, eqb-true}
+use Rattle.nibbles.specs.Nibbles.{nibs, packs, xors, word, row, every, leading, within, same}
 
 -- every one is below m
 abbrev pub Below : ℕ → List ℕ → Type 0
@@ -390,3 +390,61 @@ every-below high (x ∷ xs) e = (
 pub below-weaken : (m n : ℕ) (xs : List ℕ) → m ≤ n → Below m xs → Below n xs
 below-weaken m n [] h b = tt
 below-weaken m n (x ∷ xs) h b = (let s = b .0 in omega arith, below-weaken m n xs h (b .1))
+
+-- ---- rows that are the same
+
+pub same-refl : (xs : List ℕ) → same xs xs ≡ true
+unfolding same
+same-refl [] = refl
+same-refl (x ∷ xs) = rw (eq-eqb x x refl) (same-refl xs)
+
+pub same-true : (xs ys : List ℕ) → same xs ys ≡ true → xs ≡ ys
+unfolding same
+same-true [] [] e = refl
+same-true [] (y ∷ ys) e = absurd (false≢true e)
+same-true (x ∷ xs) [] e = absurd (false≢true e)
+same-true (x ∷ xs) (y ∷ ys) e =
+    ap₂ (λ (z : ℕ) (zs : List ℕ). z ∷ zs) (eqb-true x y (and-left (eqb x y) (same xs ys) e)) (same-true xs ys (and-right (eqb x y) (same xs ys) e))
+
+pub same-false : (xs ys : List ℕ) → (xs ≡ ys → ⊥) → same xs ys ≡ false
+same-false xs ys h = go (same xs ys) refl
+  where
+    go : (b : Bool) → same xs ys ≡ b → b ≡ false
+    go true e = absurd (h (same-true xs ys e))
+    go false e = refl
+
+-- rows of one length are the same exactly where their words are
+pub same-word : (xs ys : List ℕ) → Below 16 xs → Below 16 ys → length xs ≡ length ys → word xs ≡ word ys → xs ≡ ys
+same-word xs ys b c l e = sym (row-word xs b) ∙ ap₂ row l e ∙ row-word ys c
+
+-- ---- a run from a place on to the end
+
+module _ (p : ℕ → Bool) (ns : List ℕ) (i : ℕ) (h : i < length ns) where
+  pub lead-stop : p (getD ns i 0) ≡ false → length (leading p (drop i ns)) ≡ 0
+  unfolding leading
+  lead-stop e = rw (drop-cons ns i 0 h, e)
+
+  pub lead-on : p (getD ns i 0) ≡ true → length (leading p (drop i ns)) ≡ suc (length (leading p (drop (i + 1) ns)))
+  unfolding leading
+  lead-on e = rw (drop-cons ns i 0 h, e, add-one i)
+
+pub lead-over : (p : ℕ → Bool) (ns : List ℕ) → length (leading p (drop (length ns) ns)) ≡ 0
+unfolding leading
+lead-over p ns = rw (drop-length ns)
+
+module _ (p : ℕ → Bool) (ns : List ℕ) (i : ℕ) (h : i < length ns) where
+  pub every-stop : p (getD ns i 0) ≡ false → every p (drop i ns) ≡ false
+  unfolding every
+  every-stop e = rw (drop-cons ns i 0 h, e)
+
+  pub every-on : p (getD ns i 0) ≡ true → every p (drop i ns) ≡ every p (drop (i + 1) ns)
+  unfolding every
+  every-on e = rw (drop-cons ns i 0 h, e, add-one i)
+
+-- a number that is not k is not from k to k
+pub not-f : (k : ℕ) {n : ℕ} → (n ≡ k → ⊥) → within k k n ≡ false
+not-f k {n} h = go (within k k n) refl
+  where
+    go : (b : Bool) → within k k n ≡ b → b ≡ false
+    go true e = absurd (h (let l = inside-low k k n e in let g = inside-high k k n e in omega arith))
+    go false e = refl

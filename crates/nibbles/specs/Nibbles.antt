@@ -1,8 +1,8 @@
 -- Rows of nibbles. A row is a list of numbers below 16, from the left. Code holds a row of at most sixteen in a word.
 use Prim.Native.Nat.{ℕ, zero, suc, _+_, _*_, _/_, _%_}
 use mathlib.Core.List.{List, [], _∷_}
-use mathlib.Core.Bool.{Bool, true, _&&_, cond}
-use lib.Dec.{leb}
+use mathlib.Core.Bool.{Bool, true, false, _&&_, cond}
+use lib.Dec.{leb, eqb}
 use lib.Bits.{bitXor}
 
 -- a byte's two nibbles, the high one first, byte after byte
@@ -45,3 +45,10 @@ every p (x ∷ xs) = p x && every p xs
 unfoldable pub leading : (ℕ → Bool) → List ℕ → List ℕ
 leading p [] = []
 leading p (x ∷ xs) = cond (p x) (x ∷ leading p xs) []
+
+-- two rows are the same
+unfoldable pub same : List ℕ → List ℕ → Bool
+same [] [] = true
+same [] (y ∷ ys) = false
+same (x ∷ xs) [] = false
+same (x ∷ xs) (y ∷ ys) = eqb x y && same xs ys

@@ -1,10 +1,10 @@
 // PINs, accounts and blocks as values: rows of nibbles in words. Each is judged by one routine.
 ghost use mathlib.Core.Path.{_≡_};
-ghost use mathlib.Core.List.{map};
+ghost use mathlib.Core.List.{_++_, map};
 ghost use Prim.Native.Nat.{_^_, _<_, _≤_};
-ghost use lib.ListN.{length};
-ghost use Rattle.nibbles.specs.Nibbles.{word, row};
-ghost use Rattle.alphabet.specs.Alphabet.{valueOf};
+ghost use lib.ListN.{length, drop};
+ghost use Rattle.nibbles.specs.Nibbles.{word, row, leading};
+ghost use Rattle.alphabet.specs.Alphabet.{admits, valueOf, characters};
 ghost use Rattle.pins.specs.Pins.{pinHanded, digitsHanded, accountOf, accountField, sized};
 ghost use Rattle.pins.specs.Answers.{readingOf, rowOf, refusalIn, refusedIn};
 use alphabet::Class;
@@ -77,6 +77,20 @@ pub fn values(s: &[u8]) -> u64
     w
 }
 
+// Where the characters of a class at the beginning end.
+pub fn class_end(class: Class, s: &[u8]) -> usize
+    ensures { λ r. ⌜ r ≡ length (leading (admits class) (now (s .entry))) ⌝ }
+{
+    let mut i = 0;
+    while i < s.len() {
+        if !class.admits(s[i]) {
+            return i;
+        }
+        i += 1;
+    }
+    i
+}
+
 // The account's digits.
 pub fn account(characters: &[u8]) -> Row
     ensures { λ r. ⌜ r ≡ rowOf (accountOf (now (characters .entry))) ⌝ }
@@ -132,4 +146,16 @@ fn packed(digits: &[u8]) -> Reading
         length: n,
         digits: w,
     })
+}
+
+// Writes n digits to `out` as characters.
+pub fn put_characters(digits: u64, n: usize, out: &mut [u8])
+    requires { ⌜ (n ≤ 16) × (n ≤ length (now out)) ⌝ }
+    ensures { λ _. ⌜ now (out .exit) ≡ characters (row n digits) ++ drop n (now (out .entry)) ⌝ }
+{
+    let mut i = 0;
+    while i < n {
+        out[i] = 0x30 + nibbles::nibble(digits, i) as u8;
+        i += 1;
+    }
 }

@@ -1,0 +1,156 @@
+-- Natural PIN, differences and offset, place by place.
+-- Assumes nothing.
+use Prim.Native.Nat.{ℕ, zero, suc, _+_, _-_, _≤_, _<_}
+use native.Mathlib.Omega.{arith}
+use native.Mathlib.Nat.{not-suc-le-zero, le-of-suc-le-suc, mod-lt}
+use mathlib.Core.Path.{_≡_, refl, sym, ap, ap₂, _∙_}
+use mathlib.Core.List.{List, [], _∷_, _++_, map}
+use lib.ListN.{length, getD, take, drop, replicate, length-map, length-append, length-drop, length-replicate, getD-replicate}
+use lib.Seq.{length-take-le, getD-take, getD-drop, take-at, drop-at, getD-append-add, drop-append-add, drop-drop}
+use lib.Dec.{lit<}
+use lib.IntN.{ℤ, pos, negsuc}
+use Rattle.nibbles.specs.Nibbles.{row, within}
+use Rattle.nibbles.proofs.Laws.{Below, row-length, row-at-lt, map-at, map-below, row-at-less, below-at, every-below}
+use Rattle.alphabet.specs.Alphabet.{characters}
+use Rattle.ibm3624.specs.Ibm3624.{decimal, naturalOf, lastOf, difference, differences, moduloTen, covered, offsetOf, offsetText}
+use Rattle.ibm3624.specs.Answers.{Matched}
+
+below-take : (m k : ℕ) (xs : List ℕ) → Below m xs → Below m (take k xs)
+below-take m zero xs b = tt
+below-take m (suc k) [] b = tt
+below-take m (suc k) (x ∷ xs) b = (b .0, below-take m k xs (b .1))
+
+-- ---- the natural PIN
+
+module _ (n table enciphered : ℕ) (small : n ≤ 16) where
+  abbrev pub naturalRow : List ℕ
+  naturalRow = naturalOf n (row 16 table) (row 16 enciphered)
+
+  all : length (map (decimal (row 16 table)) (row 16 enciphered)) ≡ 16
+  all = length-map (row 16 enciphered) (decimal (row 16 table)) ∙ row-length 16 enciphered
+
+  pub natural-length : length naturalRow ≡ n
+  natural-length = length-take-le n (map (decimal (row 16 table)) (row 16 enciphered)) (rw all small)
+
+  pub natural-below : Below 16 naturalRow
+  natural-below =
+      below-take 16 n (map (decimal (row 16 table)) (row 16 enciphered))
+      (map-below 16 (decimal (row 16 table)) (λ x. row-at-lt table x) (row 16 enciphered))
+
+  pub natural-at : (i : ℕ) → i < n → getD naturalRow i 0 ≡ getD (row 16 table) (getD (row 16 enciphered) i 0) 0
+  natural-at i h =
+      getD-take n (map (decimal (row 16 table)) (row 16 enciphered)) i 0 h
+      ∙ map-at (decimal (row 16 table)) (row 16 enciphered) i 0 0 (rw (row-length 16 enciphered) (omega arith))
+
+-- ---- differences
+
+pub differences-length : (ps qs : List ℕ) → length ps ≡ length qs → length (differences ps qs) ≡ length ps
+unfolding differences
+differences-length [] qs e = refl
+differences-length (p ∷ ps) [] e = absurd (omega arith)
+differences-length (p ∷ ps) (q ∷ qs) e = ap suc (differences-length ps qs (omega arith))
+
+pub differences-at : (ps qs : List ℕ) (i : ℕ) (d : ℤ) → i < length ps → i < length qs → getD (differences ps qs) i d ≡ difference (getD ps i 0) (getD qs i 0)
+unfolding differences
+differences-at [] qs i d h k = absurd (not-suc-le-zero h)
+differences-at (p ∷ ps) [] i d h k = absurd (not-suc-le-zero k)
+differences-at (p ∷ ps) (q ∷ qs) zero d h k = refl
+differences-at (p ∷ ps) (q ∷ qs) (suc i) d h k = differences-at ps qs i d (le-of-suc-le-suc h) (le-of-suc-le-suc k)
+
+-- a difference modulo ten is a digit
+modulo-ten : (z : ℤ) → moduloTen z < 10
+modulo-ten (pos n) = mod-lt n (lit< tt)
+modulo-ten (negsuc n) = omega arith
+
+pub reduced-below : (zs : List ℤ) → Below 10 (map moduloTen zs)
+reduced-below [] = tt
+reduced-below (z ∷ zs) = (modulo-ten z, reduced-below zs)
+
+-- ---- the last m of n digits
+
+module _ (m n w : ℕ) (within-it : m ≤ n) where
+  pub last-length : length (lastOf m (row n w)) ≡ m
+  last-length = length-drop (length (row n w) - m) (row n w) ∙ (let l = row-length n w in omega arith)
+
+  pub last-at : (i : ℕ) → i < m → getD (lastOf m (row n w)) i 0 ≡ getD (row n w) (n - m + i) 0
+  last-at i h =
+      getD-drop (length (row n w) - m) (row n w) i 0
+      ∙ ap (λ (k : ℕ). getD (row n w) (k - m + i) 0) (row-length n w)
+
+module _ (m n pin natural : ℕ) (h : Matched m n pin natural) where
+  abbrev pub pinDigit : ℕ → ℕ
+  pinDigit i = getD (row n pin) (n - m + i) 0
+
+  abbrev pub naturalDigit : ℕ → ℕ
+  naturalDigit i = getD (row n natural) (n - m + i) 0
+
+  pub covered-length : length (covered m (row n pin) (row n natural)) ≡ m
+  covered-length =
+      differences-length (lastOf m (row n pin)) (lastOf m (row n natural)) (last-length m n pin (h .within) ∙ sym (last-length m n natural (h .within)))
+      ∙ last-length m n pin (h .within)
+
+  pub covered-at : (i : ℕ) → i < m → getD (covered m (row n pin) (row n natural)) i (pos 0) ≡ difference (pinDigit i) (naturalDigit i)
+  covered-at i k =
+      differences-at (lastOf m (row n pin)) (lastOf m (row n natural)) i (pos 0)
+      (rw (last-length m n pin (h .within)) k) (rw (last-length m n natural (h .within)) k)
+      ∙ ap₂ difference (last-at m n pin (h .within) i k) (last-at m n natural (h .within) i k)
+
+  pub offset-length : length (offsetOf m (row n pin) (row n natural)) ≡ m
+  offset-length = length-map (covered m (row n pin) (row n natural)) moduloTen ∙ covered-length
+
+  pub pin-digit : (i : ℕ) → pinDigit i ≤ 9
+  pin-digit i = le-of-suc-le-suc (below-at 10 (row n pin) (n - m + i) (lit< tt) (every-below 9 (row n pin) (h .digits)))
+
+  pub natural-digit : (i : ℕ) → naturalDigit i ≤ 9
+  natural-digit i = le-of-suc-le-suc (below-at 10 (row n natural) (n - m + i) (lit< tt) (every-below 9 (row n natural) (h .naturals)))
+
+  pub offset-at : (i : ℕ) → i < m → getD (offsetOf m (row n pin) (row n natural)) i 0 ≡ moduloTen (difference (pinDigit i) (naturalDigit i))
+  offset-at i k = mapped (covered m (row n pin) (row n natural)) i (rw covered-length k) ∙ ap moduloTen (covered-at i k)
+    where
+      mapped : (zs : List ℤ) (j : ℕ) → j < length zs → getD (map moduloTen zs) j 0 ≡ moduloTen (getD zs j (pos 0))
+      mapped [] j b = absurd (not-suc-le-zero b)
+      mapped (z ∷ zs) zero b = refl
+      mapped (z ∷ zs) (suc j) b = mapped zs j (le-of-suc-le-suc b)
+
+  pub offset-below : Below 10 (offsetOf m (row n pin) (row n natural))
+  offset-below = reduced-below (covered m (row n pin) (row n natural))
+
+  -- the nibbles that the code takes are those digits
+  pub pin-nibble : (i : ℕ) → i < m → getD (row 16 pin) (n - m + i) 0 ≡ pinDigit i
+  pin-nibble i k = row-at-less n pin (n - m + i) (omega (arith, h .within)) (omega (arith, h .short))
+
+  pub natural-nibble : (i : ℕ) → i < m → getD (row 16 natural) (n - m + i) 0 ≡ naturalDigit i
+  natural-nibble i k = row-at-less n natural (n - m + i) (omega (arith, h .within)) (omega (arith, h .short))
+
+-- ---- the offset's text
+
+module _ (ds : List ℕ) (short : length ds ≤ 12) where
+  pub text-length : length (offsetText ds) ≡ 12
+  text-length =
+      length-append (characters ds) (replicate (12 - length ds) 0x46)
+      ∙ ap₂ (λ (a b : ℕ). a + b) (length-map ds (λ d. 0x30 + d)) (length-replicate (12 - length ds) 0x46) ∙ omega arith
+
+  pub text-head : take (length ds) (offsetText ds) ≡ characters ds
+  text-head = take-at (characters ds) (replicate (12 - length ds) 0x46) (length ds) (length-map ds (λ d. 0x30 + d))
+
+  pub text-fill : (i : ℕ) → length ds ≤ i → i < 12 → 0x46 ≡ getD (offsetText ds) i 0
+  text-fill i h k =
+      let n : length (characters ds) + (i - length ds) ≡ i = let l = length-map ds (λ d. 0x30 + d) in omega arith in
+      sym (ap (λ (j : ℕ). getD (offsetText ds) j 0) (sym n) ∙ getD-append-add (characters ds) (replicate (12 - length ds) 0x46) (i - length ds) 0
+      ∙ getD-replicate (12 - length ds) (i - length ds) 0x46 0 (omega arith))
+
+-- a buffer that begins with its first m characters already
+pub started : (m : ℕ) (head ws rest out : List ℕ) → out ≡ head ++ rest → length head ≡ m → take m ws ≡ head → out ≡ take m ws ++ drop m out
+started m head ws rest out e l t = rw (t, e) (ap (λ (r : List ℕ). head ++ r) (sym (drop-at head rest m l)))
+
+module _ (m : ℕ) (head d out : List ℕ) (e : out ≡ head ++ drop m d) (l : length head ≡ m) where
+  -- it is as long as before, and as it was from any later place on
+  pub kept-length : m ≤ length d → length out ≡ length d
+  kept-length h = ap length e ∙ length-append head (drop m d) ∙ ap₂ (λ (a b : ℕ). a + b) l (length-drop m d) ∙ omega arith
+
+  pub kept-rest : (k : ℕ) → m ≤ k → drop k out ≡ drop k d
+  kept-rest k h =
+      let s : length head + (k - m) ≡ k = omega arith in
+      let t : m + (k - m) ≡ k = omega arith in
+      ap (drop k) e ∙ ap (λ (n : ℕ). drop n (head ++ drop m d)) (sym s) ∙ drop-append-add head (drop m d) (k - m) ∙ drop-drop (k - m) m d
+      ∙ ap (λ (n : ℕ). drop n d) t

@@ -1,0 +1,2 @@
+pub mod Ibm3624
+pub mod Answers

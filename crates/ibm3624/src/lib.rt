@@ -1,0 +1,158 @@
+// The IBM 3624 method over values: natural PIN, signed differences, offset.
+ghost use mathlib.Core.Path.{_≡_};
+ghost use mathlib.Core.List.{_++_};
+ghost use Prim.Native.Nat.{_≤_};
+ghost use lib.ListN.{length, drop};
+ghost use Rattle.nibbles.specs.Nibbles.{word, row, within, every};
+ghost use Rattle.pins.specs.Answers.{pinOf, rowOf, readingOf};
+ghost use Rattle.blocks.specs.Answers.{countOf};
+ghost use Rattle.ibm3624.specs.Ibm3624.{tableOf, naturalOf, covers, difference, moduloTen, covered, offsetOf, offsetText, offsetPresented};
+ghost use Rattle.ibm3624.specs.Answers.{Matched};
+use alphabet::Class;
+use blocks::Count;
+use numbers::Refusal;
+use pins::Pin;
+use pins::Reading;
+use pins::Row;
+
+// PIN digit less natural digit.
+fn less(pin: u64, natural: u64) -> i32
+    requires { ⌜ (pin ≤ 9) × (natural ≤ 9) ⌝ }
+    ensures { λ r. ⌜ r ≡ difference pin natural ⌝ }
+{
+    (pin as i32) - (natural as i32)
+}
+
+// A difference modulo ten.
+fn reduced(pin: u64, natural: u64) -> u64
+    requires { ⌜ (pin ≤ 9) × (natural ≤ 9) ⌝ }
+    ensures { λ r. ⌜ r ≡ moduloTen (difference pin natural) ⌝ }
+{
+    let d = less(pin, natural);
+    if d < 0 { (d + 10) as u64 } else { d as u64 }
+}
+
+// The table's digits, where it holds nothing else.
+pub fn decimals(table: &[u8]) -> Row
+    requires { ⌜ length (now table) ≤ 16 ⌝ }
+    ensures { λ r. ⌜ r ≡ rowOf (tableOf (now (table .entry))) ⌝ }
+{
+    if !alphabet::all_of(Class::Digit, table, 0, table.len()) {
+        return Row::Refused(Refusal::Table25);
+    }
+    Row::Held(pins::values(table))
+}
+
+// The natural PIN of n digits: the first of the enciphered block, through the table.
+pub fn natural(n: usize, table: u64, enciphered: u64) -> Pin
+    requires { ⌜ n ≤ 16 ⌝ }
+    ensures { λ r. ⌜ r ≡ pinOf (naturalOf n (row 16 table) (row 16 enciphered)) ⌝ }
+{
+    let mut w: u64 = 0;
+    let mut i = n;
+    while 0 < i {
+        i -= 1;
+        let nibble = nibbles::nibble(enciphered, i) as usize;
+        w = w * 16 + nibbles::nibble(table, nibble);
+    }
+    Pin {
+        length: n,
+        digits: w,
+    }
+}
+
+// How many digits an offset covers.
+pub fn covering(variable: bool, check: usize, n: usize) -> Count
+    ensures { λ r. ⌜ r ≡ countOf (covers variable check n) ⌝ }
+{
+    if variable {
+        return Count::Of(n);
+    }
+    if n < check {
+        return Count::Bad(Refusal::Check81);
+    }
+    Count::Of(check)
+}
+
+// The offset over the last m of n digits, as a row.
+pub fn offset(m: usize, n: usize, pin: u64, natural: u64) -> u64
+    requires { ⌜ Matched m n pin natural ⌝ }
+    ensures { λ r. ⌜ r ≡ word (offsetOf m (row n pin) (row n natural)) ⌝ }
+{
+    let skipped = n - m;
+    let mut w: u64 = 0;
+    let mut i = m;
+    while 0 < i {
+        i -= 1;
+        w = w * 16
+            + reduced(
+                nibbles::nibble(pin, skipped + i),
+                nibbles::nibble(natural, skipped + i),
+            );
+    }
+    w
+}
+
+// Writes the differences over the last m of n digits.
+pub fn put_differences(m: usize, n: usize, pin: u64, natural: u64, out: &mut [i8])
+    requires { ⌜ Matched m n pin natural × (m ≤ length (now out)) ⌝ }
+    ensures { λ _. ⌜ now (out .exit) ≡ covered m (row n pin) (row n natural) ++ drop m (now (out .entry)) ⌝ }
+{
+    let skipped = n - m;
+    let mut i = 0;
+    while i < m {
+        out[i] = less(
+            nibbles::nibble(pin, skipped + i),
+            nibbles::nibble(natural, skipped + i),
+        ) as i8;
+        i += 1;
+    }
+}
+
+// Writes an offset of m digits as 12 characters, the digits and then F.
+pub fn put_offset(m: usize, digits: u64, out: &mut [u8])
+    requires { ⌜ (m ≤ 12) × (12 ≤ length (now out)) ⌝ }
+    ensures { λ _. ⌜ now (out .exit) ≡ offsetText (row m digits) ++ drop 12 (now (out .entry)) ⌝ }
+{
+    pins::put_characters(digits, m, out);
+    let mut i = m;
+    while i < 12 {
+        out[i] = b'F';
+        i += 1;
+    }
+}
+
+// Whether every character from a place on is F.
+fn only_f(s: &[u8], from: usize) -> bool
+    requires { ⌜ from ≤ length (now s) ⌝ }
+    ensures { λ r. ⌜ r ≡ every (within 0x46 0x46) (drop from (now (s .entry))) ⌝ }
+{
+    let mut i = from;
+    while i < s.len() {
+        if s[i] != b'F' {
+            return false;
+        }
+        i += 1;
+    }
+    true
+}
+
+// An offset that is presented: 4 to 12 digits, then only F.
+pub fn presented(characters: &[u8]) -> Reading
+    ensures { λ r. ⌜ r ≡ readingOf (offsetPresented (now (characters .entry))) ⌝ }
+{
+    if characters.len() != 12 {
+        return Reading::Bad(Refusal::Field15);
+    }
+    let n = pins::class_end(Class::Digit, characters);
+    if n < 4 {
+        return Reading::Bad(Refusal::Field15);
+    }
+    if !only_f(characters, n) {
+        return Reading::Bad(Refusal::Field15);
+    }
+    Reading::Got(Pin {
+        length: n,
+        digits: pins::values(&characters[..n]),
+    })
+}

@@ -1,0 +1,96 @@
+// Validation data, and the block that the key box enciphers to make a natural PIN.
+ghost use mathlib.Core.Path.{_≡_};
+ghost use mathlib.Core.List.{_++_, map};
+ghost use Prim.Native.Nat.{suc, _<_};
+ghost use lib.ListN.{length, take, drop};
+ghost use Rattle.nibbles.specs.Nibbles.{word, row};
+ghost use Rattle.alphabet.specs.Alphabet.{valueOf};
+ghost use Rattle.numbers.specs.Numbers.{unless};
+ghost use Rattle.numbers.specs.Promise.{Does, quietly};
+ghost use Rattle.pins.specs.Answers.{rowOf};
+ghost use Rattle.blocks.specs.Answers.{blockOf};
+ghost use Rattle.validation.specs.Validation.{isTemplate, replaced, isWhole, validationRow, validationBlock};
+use alphabet::Class;
+use numbers::Refusal;
+use numbers::Reply;
+use pins::Row;
+
+// The values of twelve characters, with the last five account digits for the one at a place.
+fn with_account(account: u64, s: &[u8], at: usize) -> u64
+    requires { ⌜ (length (now s) ≡ 12) × (at < 12) ⌝ }
+    ensures { λ r. ⌜ r ≡ word (map valueOf (take at (now (s .entry))) ++ drop 7 (row 12 account) ++ map valueOf (drop (suc at) (now (s .entry)))) ⌝ }
+{
+    let behind = at + 1;
+    let front = pins::values(&s[..at]);
+    let back = pins::values(&s[behind..]);
+    let last_five = nibbles::part(account, 7, 5);
+    nibbles::join(front, at, nibbles::join(last_five, 5, back))
+}
+
+// Twelve characters, eleven hex and exactly one N.
+fn template(account: u64, s: &[u8]) -> Row
+    ensures { λ r. ⌜ r ≡ rowOf (unless Refusal.Field15 (isTemplate (now (s .entry))) (replaced (row 12 account) (now (s .entry)))) ⌝ }
+{
+    if s.len() != 12 {
+        return Row::Refused(Refusal::Field15);
+    }
+    let at = pins::class_end(Class::CapitalHex, s);
+    if 12 <= at {
+        return Row::Refused(Refusal::Field15);
+    }
+    if s[at] != b'N' {
+        return Row::Refused(Refusal::Field15);
+    }
+    if !alphabet::all_of(Class::CapitalHex, s, at + 1, 12) {
+        return Row::Refused(Refusal::Field15);
+    }
+    Row::Held(with_account(account, s, at))
+}
+
+// P and sixteen hex characters.
+fn whole(s: &[u8]) -> Row
+    ensures { λ r. ⌜ r ≡ rowOf (unless Refusal.Field15 (isWhole (now (s .entry))) (map valueOf (drop 1 (now (s .entry))))) ⌝ }
+{
+    if s.len() != 17 {
+        return Row::Refused(Refusal::Field15);
+    }
+    if !alphabet::all_of(Class::CapitalHex, s, 1, s.len()) {
+        return Row::Refused(Refusal::Field15);
+    }
+    Row::Held(pins::values(&s[1..]))
+}
+
+// The sixteen nibbles that validation data stand for, or 15. The account's twelve digits are a row in a word.
+pub fn validation_row(account: u64, validation: &[u8]) -> Row
+    ensures { λ r. ⌜ r ≡ rowOf (validationRow (row 12 account) (now (validation .entry))) ⌝ }
+{
+    if validation.len() == 0 {
+        return Row::Refused(Refusal::Field15);
+    }
+    if validation[0] == b'P' {
+        return whole(validation);
+    }
+    template(account, validation)
+}
+
+// Judges the call that makes the validation block: 901, 15 for account and validation data.
+fn judged(validation: &[u8], account: &[u8], room: usize) -> Row
+    ensures { λ r. ⌜ r ≡ blockOf (validationBlock (now (validation .entry)) (now (account .entry)) room) ⌝ }
+{
+    if room < 8 {
+        return Row::Refused(Refusal::Room901);
+    }
+    let kept = pins::account(account);
+    let Row::Held(digits) = kept else {
+        return Row::Refused(Refusal::Field15);
+    };
+    validation_row(digits, validation)
+}
+
+// Makes the validation block of validation data and an account.
+pub fn validation_block(validation: &[u8], account: &[u8], out: &mut [u8]) -> Reply
+    ensures { λ r. ⌜ Does (quietly (validationBlock (now (validation .entry)) (now (account .entry)) (length (now (out .entry))))) (now (out .entry)) r (now (out .exit)) ⌝ }
+{
+    let judged = judged(validation, account, out.len());
+    blocks::answer(judged, out)
+}
