@@ -12,7 +12,7 @@ use lib.Dec.{leb, eqb, lit<, lit≤}
 use lib.Bits.{xor-lt}
 use borrow.Author.Tests.{leb-true}
 use Rattle.nibbles.specs.Nibbles.{row, word, nibs, packs, xors, within, every, leading}
-use Rattle.nibbles.proofs.Laws.{Below, row-length, row-below, row-word, word-row, leading-take, inside-high, below-weaken, and-left, nibs-length, nibs-below, nibs-packs, packs-length, run-whole, run-broken, map-at, word-none, below-drop, word-lt, word-append}
+use Rattle.nibbles.proofs.Laws.{Below, row-length, row-below, row-word, word-row, leading-take, inside-high, below-weaken, and-left, nibs-length, nibs-below, nibs-packs, packs-length, run-whole, run-broken, map-at, word-none, below-drop, word-lt, word-append, below-every}
 use Rattle.numbers.specs.Numbers.{Outcome, done, refused, andThen, unless}
 use Rattle.numbers.specs.declared.Refusal.{Refusal}
 use Rattle.numbers.specs.declared.Refusal.the-variants.{Block20, Length24, Room901}
@@ -24,13 +24,12 @@ use Rattle.formats.specs.declared.Lead.the-variants.{Bare, Control}
 use Rattle.formats.specs.declared.Fill.{Fill}
 use Rattle.formats.specs.declared.Fill.the-variants.{F, AToF, Any}
 use Rattle.pins.specs.Pins.{digit, pinLength, pinHanded, sized, accountOf, accountField}
-use Rattle.pins.specs.Answers.{pinOf}
+use Rattle.pins.specs.Answers.{pinOf, readingOf}
 use Rattle.pins.specs.declared.Pin.{Pin}
 use Rattle.numbers.proofs.Laws.{passed, failed, then-done, value-of}
-use Rattle.pins.proofs.Laws.{Pinned, pinned, account-done, sized-done, handed-done, pin-under}
+use Rattle.pins.proofs.Laws.{Pinned, pinned, account-done, sized-done, handed-done, pin-under, pin-row}
 use Rattle.blocks.specs.Blocks.{veil, beforeF, counted, contents, readRow, readBlock, writeBlock, clearRow, writeRow}
-use Rattle.blocks.specs.Answers.{countOf, blockOf, bytesOf, Roomy, digitsOf, Proper}
-use Rattle.blocks.specs.declared.Count.the-variants.{Of, Bad}
+use Rattle.blocks.specs.Answers.{blockOf, bytesOf, Roomy, digitsIn, RoomyDigits, digitsOf, Proper}
 
 pub lead-short : (l : Lead) → leadWidth l ≤ 2
 lead-short Bare = omega arith
@@ -44,15 +43,6 @@ filled-below Any n h = h
 -- the word of a proper PIN's digits is the word it holds
 pub digits-word : (p : Pin) → Proper p → word (digitsOf p) ≡ p .digits
 digits-word p h = word-row (p .length) (p .digits) ∙ mod-eq-of-lt (h .clean)
-
--- a count that is no refusal
-pub count-of : (o : Outcome ℕ) (n : ℕ) → Of n ≡ countOf o → o ≡ done n
-count-of (done m) n e = cc
-count-of (refused q) n e = absurd (let z : _≡_ {A = ℕ} 0 1 = cc in omega arith)
-
-pub count-bad : (o : Outcome ℕ) (q : Refusal) → Bad q ≡ countOf o → o ≡ refused q
-count-bad (done m) q e = absurd (let z : _≡_ {A = ℕ} 0 1 = cc in omega arith)
-count-bad (refused p) q e = cc
 
 -- a count is refused for its contents only
 pub counted-refused : (l : Lead) (ns : List ℕ) (q : Refusal) → counted l ns ≡ refused q → counted l ns ≡ refused Block20
@@ -316,13 +306,33 @@ call-written code pin account fill room bs b e =
 
 -- a PIN that was judged is proper
 pub proper : (ds : List ℕ) → Pinned ds → Proper (pinOf ds)
-proper ds p = record { short = p .short; clean = pin-under ds p }
+proper ds p =
+    record {
+      long = p .long;
+      short = p .short;
+      digits = ap (every digit) (pin-row ds p) ∙ below-every 9 ds (p .digits);
+      clean = pin-under ds p;
+    }
 
--- a word that holds a row is the word of the row's bytes
-pub row-held-by : (w : ℕ) (ns : List ℕ) → w < 2 ^ 64 → row 16 w ≡ ns → w ≡ word (nibs (packs ns))
-row-held-by w ns h e =
-    let s : Sixteen ns = rw (← e) (record { long = row-length 16 w; nibbles = row-below 16 w }) in
-    sym (ap word (sixteen-nibs ns s ∙ sym e) ∙ word-row 16 w ∙ mod-eq-of-lt h)
+-- the word of a row is the word of the row's bytes
+pub block-held : (w : ℕ) (ns : List ℕ) → Sixteen ns → w ≡ word ns → w ≡ word (nibs (packs ns))
+block-held w ns s e = e ∙ ap word (sym (sixteen-nibs ns s))
+
+pub row-sixteen : (w : ℕ) → Sixteen (row 16 w)
+row-sixteen w = record { long = row-length 16 w; nibbles = row-below 16 w }
+
+pub field-row-sixteen : (a : ℕ) → Sixteen (accountField (row 12 a))
+field-row-sixteen a = record { long = omega (arith, row-length 12 a); nibbles = (lit< tt, (lit< tt, (lit< tt, (lit< tt, row-below 12 a)))) }
+
+-- under the veil or not, the word holds the row
+pub veil-held : (on : Bool) (a b w : ℕ) → w ≡ word (veil on (row 16 a) (row 16 b)) → row 16 w ≡ veil on (row 16 a) (row 16 b)
+veil-held on a b w e =
+    ap (row 16) e
+    ∙ sixteen-word (veil on (row 16 a) (row 16 b))
+    (record {
+      long = veil-length on (row 16 a) (row 16 b) (row-length 16 a) (row-length 16 b);
+      nibbles = veil-below on (row 16 a) (row 16 b) (row-below 16 a) (row-below 16 b);
+    })
 
 -- ---- an outcome that is a block, as the answer that is written
 
@@ -340,3 +350,22 @@ answered (refused q) room b = refl
 pub roomy : (o : Outcome (List ℕ)) (room : ℕ) → Blocky o room → Roomy (blockOf o) room
 roomy (done bs) room b = b bs refl .0
 roomy (refused q) room b = tt
+
+-- ---- an outcome that is a PIN, as the answer that is written
+
+-- its value, where it has one, is at most twelve digits, and there is room for them
+abbrev pub Digital : Outcome (List ℕ) → ℕ → Type 0
+Digital o room = (ds : List ℕ) → o ≡ done ds → (length ds ≤ 12) × (length ds ≤ room) × Below 16 ds
+
+pub answered-digits : (o : Outcome (List ℕ)) (room : ℕ) → Digital o room → digitsIn (readingOf o) ≡ o
+answered-digits (done ds) room d = ap done (row-word ds (d ds refl .2))
+answered-digits (refused q) room d = refl
+
+pub roomy-digits : (o : Outcome (List ℕ)) (room : ℕ) → Digital o room → RoomyDigits (readingOf o) room
+roomy-digits (done ds) room d = (d ds refl .0, d ds refl .1)
+roomy-digits (refused q) room d = tt
+
+pub read-digital : (code : ℕ) (block account : List ℕ) (room : ℕ) → Digital (readBlock code block account room) room
+read-digital code block account room ds e =
+    let c = call-read code block account room ds e in
+    (c .1 .short, omega (arith, c .0, c .1 .short), below-weaken 10 16 ds (lit≤ tt) (c .1 .digits))

@@ -1,19 +1,17 @@
 -- The answers of the checks as values of the code.
 use Prim.Native.Nat.{ℕ, _^_, _≤_, _<_}
+use mathlib.Core.Path.{_≡_}
 use mathlib.Core.List.{List}
-use Rattle.nibbles.specs.Nibbles.{row, nibs, packs}
+use mathlib.Core.Bool.{true}
+use Rattle.nibbles.specs.Nibbles.{row, nibs, packs, every}
 use Rattle.numbers.specs.Numbers.{Outcome, done, refused, andThen}
+use Rattle.pins.specs.Pins.{digit}
 use Rattle.pins.specs.Answers.{rowOf}
 use Rattle.pins.specs.declared.Pin.{Pin}
 use Rattle.pins.specs.declared.Row.{Row}
+use Rattle.pins.specs.declared.Reading.{Reading}
+use Rattle.pins.specs.declared.Reading.the-variants.{Got, Bad}
 use Rattle.pins.specs.declared.Row.the-variants.{Held, Refused}
-use Rattle.blocks.specs.declared.Count.{Count}
-use Rattle.blocks.specs.declared.Count.the-variants.{Of, Bad}
-
--- a count, or the refusal
-abbrev pub countOf : Outcome ℕ → Count
-countOf (done n) = Of n
-countOf (refused q) = Bad q
 
 -- a block that was written, as a row in a word, or the refusal
 abbrev pub blockOf : Outcome (List ℕ) → Row
@@ -33,7 +31,19 @@ Roomy (Refused q) room = Unit {0}
 abbrev pub digitsOf : Pin → List ℕ
 digitsOf p = row (p .length) (p .digits)
 
--- a PIN as the routines make it: its word holds its digits and nothing behind them
+-- what an answer that is a PIN writes: its digits, or nothing
+abbrev pub digitsIn : Reading → Outcome (List ℕ)
+digitsIn (Got p) = done (digitsOf p)
+digitsIn (Bad q) = refused q
+
+-- there is room for its digits
+abbrev pub RoomyDigits : Reading → ℕ → Type 0
+RoomyDigits (Got p) room = (p .length ≤ 12) × (p .length ≤ room)
+RoomyDigits (Bad q) room = Unit {0}
+
+-- a PIN as the routines make it: 4 to 12 digits, and its word holds them and nothing behind them
 pub record Proper (p : Pin) : Type 0 where
+  pub long : 4 ≤ p .length
   pub short : p .length ≤ 12
+  pub digits : every digit (digitsOf p) ≡ true
   pub clean : p .digits < 16 ^ (p .length)

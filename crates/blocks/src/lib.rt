@@ -6,28 +6,23 @@ ghost use lib.ListN.{length, drop};
 ghost use Rattle.nibbles.specs.Nibbles.{word, row};
 ghost use Rattle.numbers.specs.Promise.{Does, quietly};
 ghost use Rattle.formats.specs.Formats.{leads, filled, veiled};
-ghost use Rattle.pins.specs.Answers.{readingOf};
+ghost use Rattle.pins.specs.Answers.{countOf, readingOf};
 ghost use Rattle.blocks.specs.Blocks.{veil, counted, contents, readRow, writeRow, readBlock, writeBlock};
-ghost use Rattle.blocks.specs.Answers.{countOf, blockOf, bytesOf, Roomy, digitsOf, Proper};
+ghost use Rattle.blocks.specs.Answers.{blockOf, bytesOf, Roomy, digitsIn, RoomyDigits, digitsOf, Proper};
 use formats::Chosen;
 use formats::Fill;
 use formats::Format;
 use formats::Lead;
 use numbers::Refusal;
 use numbers::Reply;
+use pins::Count;
 use pins::Pin;
 use pins::Reading;
 use pins::Row;
 
-// How many digits a block says it has, or why it says nothing.
-pub enum Count {
-    Of(usize),
-    Bad(Refusal),
-}
-
 // With the veil on, or taken off again.
 fn under_veil(f: Format, with: u64, block: u64) -> u64
-    ensures { λ r. ⌜ row 16 r ≡ veil (veiled f) (row 16 with) (row 16 block) ⌝ }
+    ensures { λ r. ⌜ r ≡ word (veil (veiled f) (row 16 with) (row 16 block)) ⌝ }
 {
     if f.veiled() { block ^ with } else { block }
 }
@@ -87,15 +82,13 @@ pub fn read(f: Format, with: u64, block: u64) -> Reading
 {
     let clear = under_veil(f, with, block);
     let counted = counted_by(f.lead(), clear);
-    let Count::Of(n) = counted else {
+    let Count::Of(said) = counted else {
         return Reading::Bad(Refusal::Block20);
     };
-    if n < 4 {
+    let measured = pins::pin_length(said);
+    let Count::Of(n) = measured else {
         return Reading::Bad(Refusal::Length24);
-    }
-    if 12 < n {
-        return Reading::Bad(Refusal::Length24);
-    }
+    };
     digits(f, clear, n)
 }
 
@@ -127,7 +120,7 @@ fn fill_from(kind: Fill, fill: u64, from: usize) -> u64
 // Writes a PIN under any veil.
 pub fn write(f: Format, with: u64, pin: Pin, fill: u64) -> u64
     requires { ⌜ Proper pin ⌝ }
-    ensures { λ r. ⌜ row 16 r ≡ writeRow f (row 16 with) (digitsOf pin) (row 16 fill) ⌝ }
+    ensures { λ r. ⌜ r ≡ word (writeRow f (row 16 with) (digitsOf pin) (row 16 fill)) ⌝ }
 {
     let lead = f.lead();
     let from = lead.width() + pin.length;
@@ -149,6 +142,18 @@ pub fn answer(judged: Row, out: &mut [u8]) -> Reply
     };
     nibbles::put_bytes(row, out);
     Reply::done(8)
+}
+
+// Answers with a PIN's digits as values, or with the refusal that stands in their place.
+pub fn answer_digits(judged: Reading, out: &mut [u8]) -> Reply
+    requires { ⌜ RoomyDigits judged (length (now out)) ⌝ }
+    ensures { λ r. ⌜ Does (quietly (digitsIn judged)) (now (out .entry)) r (now (out .exit)) ⌝ }
+{
+    let Reading::Got(pin) = judged else {
+        return Reply::refused(judged.refusal());
+    };
+    nibbles::put_nibbles(pin.digits, pin.length, out);
+    Reply::done(pin.length as u32)
 }
 
 // Judges the call that reads a block: 901, 15 for block and account, 23, 69, the block.
@@ -177,12 +182,8 @@ fn judged_reading(format: u32, block: &[u8], account: &[u8], room: usize) -> Rea
 pub fn read_block(format: u32, block: &[u8], account: &[u8], out: &mut [u8]) -> Reply
     ensures { λ r. ⌜ Does (quietly (readBlock format (now (block .entry)) (now (account .entry)) (length (now (out .entry))))) (now (out .entry)) r (now (out .exit)) ⌝ }
 {
-    let reading = judged_reading(format, block, account, out.len());
-    let Reading::Got(pin) = reading else {
-        return Reply::refused(reading.refusal());
-    };
-    nibbles::put_nibbles(pin.digits, pin.length, out);
-    Reply::done(pin.length as u32)
+    let judged = judged_reading(format, block, account, out.len());
+    answer_digits(judged, out)
 }
 
 // Judges the call that writes a block: 901, 15 for account and fill, 23, 69, 24, 20.

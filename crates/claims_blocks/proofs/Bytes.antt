@@ -1,46 +1,34 @@
--- Bytes and rows of nibbles, and the account field.
+-- The statements' PINs, rows and bytes, and those of the laws.
 -- Assumes nothing.
 use Prim.Native.Nat.{ℕ, suc}
 use native.Mathlib.Omega.{arith}
 use mathlib.Core.Path.{_≡_, refl, _∙_}
-use mathlib.Core.List.{List, [], _∷_, map}
-use mathlib.Core.Bool.{true, _&&_}
-use lib.ListN.{length, length-map}
-use lib.Dec.{eqb}
-use borrow.Author.Tests.{eqb-true}
+use mathlib.Core.List.{List, [], _∷_}
+use mathlib.Core.Bool.{true}
+use lib.ListN.{length}
 use Rattle.nibbles.specs.Nibbles.{nibs, packs, within, every}
-use Rattle.nibbles.proofs.Laws.{Below, and-left, and-right, inside, inside-high, nibs-length, nibs-below, nibs-packs, packs-length}
-use Rattle.alphabet.specs.Alphabet.{allOf, valueOf}
-use Rattle.alphabet.proofs.Laws.{value-below}
-use Rattle.alphabet.specs.declared.Class.the-variants.{Digit}
+use Rattle.nibbles.proofs.Laws.{Below, every-below, inside, nibs-length, nibs-below}
 use Rattle.numbers.specs.Numbers.{done}
-use Rattle.numbers.specs.declared.Refusal.the-variants.{Field15}
-use Rattle.pins.specs.Pins.{padded, accountOf, accountField}
-use Rattle.claims_blocks.specs.Claims.{IsRow, IsBytes}
-use Rattle.claims_blocks.proofs.Judged.{holds}
-
--- the tests of the statements, and the bounds of the laws
-every-below : (m : ℕ) (ns : List ℕ) → every (within 0 m) ns ≡ true → Below (suc m) ns
-unfolding every
-every-below m [] h = tt
-every-below m (n ∷ ns) h =
-    let small = inside-high 0 m n (and-left (within 0 m n) (every (within 0 m) ns) h) in
-    (omega arith, every-below m ns (and-right (within 0 m n) (every (within 0 m) ns) h))
+use Rattle.pins.specs.Pins.{pinHanded}
+use Rattle.pins.proofs.Laws.{Pinned, handed-done}
+use Rattle.blocks.proofs.Laws.{Sixteen}
+use Rattle.claims_blocks.specs.Claims.{IsPin, IsRow, IsBytes}
 
 below-every : (m : ℕ) (ns : List ℕ) → Below (suc m) ns → every (within 0 m) ns ≡ true
 unfolding every
 below-every m [] b = refl
 below-every m (n ∷ ns) b = rw (inside 0 m n (omega arith) (omega arith)) (below-every m ns (b .1))
 
+-- ---- rows
+
+pub sixteen : (ns : List ℕ) → IsRow ns → Sixteen ns
+sixteen ns r = record { long = r .0; nibbles = every-below 15 ns (r .1) }
+
+pub is-row : (ns : List ℕ) → Sixteen ns → IsRow ns
+is-row ns s = (s .long, below-every 15 ns (s .nibbles))
+
 pub nibs-row : (bs : List ℕ) → length bs ≡ 8 → IsBytes bs → IsRow (nibs bs)
 nibs-row bs h b = (nibs-length bs ∙ omega arith, below-every 15 (nibs bs) (nibs-below bs (every-below 255 bs b)))
-
--- a row's bytes give the row back
-pub row-bytes : (ns : List ℕ) → IsRow ns → nibs (packs ns) ≡ ns
-row-bytes ns r = nibs-packs 8 ns (r .0) (every-below 15 ns (r .1))
-
-pub row-packs : (ns : List ℕ) → IsRow ns → length (packs ns) ≡ 8
-row-packs ns r = packs-length 8 ns (r .0)
 
 packs-below : (ns : List ℕ) → Below 16 ns → Below 256 (packs ns)
 unfolding packs
@@ -48,18 +36,20 @@ packs-below [] b = tt
 packs-below (h ∷ []) b = tt
 packs-below (h ∷ l ∷ ns) b = (omega arith, packs-below ns (b .1 .1))
 
-pub packs-bytes : (ns : List ℕ) → IsRow ns → IsBytes (packs ns)
-packs-bytes ns r = below-every 255 (packs ns) (packs-below ns (every-below 15 ns (r .1)))
+pub packs-bytes : (ns : List ℕ) → Sixteen ns → IsBytes (packs ns)
+packs-bytes ns s = below-every 255 (packs ns) (packs-below ns (s .nibbles))
 
-values-below : (cs : List ℕ) → Below 16 (map valueOf cs)
-values-below [] = tt
-values-below (c ∷ cs) = (value-below c, values-below cs)
+-- ---- PINs
 
--- the account field is a row
-pub account-row : (account digits : List ℕ) → accountOf account ≡ done digits → IsRow (accountField digits)
-unfolding every
-account-row account digits h =
-    let a = holds Field15 (eqb (length account) 12 && allOf Digit account) (padded (map valueOf account)) digits h in
-    let twelve : length (map valueOf account) ≡ 12 = length-map account valueOf ∙ eqb-true (length account) 12 (and-left (eqb (length account) 12) (allOf Digit account) (a .0)) in
-    let plain : map valueOf account ≡ digits = (rw twelve at (a .1)) in
-    rw (← plain) (omega arith, below-every 15 (map valueOf account) (values-below account))
+pub pinned-pin : (ds : List ℕ) → IsPin ds → Pinned ds
+pinned-pin ds p = record { long = p .0; short = p .1; digits = every-below 9 ds (p .2) }
+
+pub is-pin : (ds : List ℕ) → Pinned ds → IsPin ds
+is-pin ds p = (p .long, p .short, below-every 9 ds (p .digits))
+
+-- a PIN that is handed in is taken, and nothing else is
+pub pin-handed : (ds : List ℕ) → IsPin ds → pinHanded ds ≡ done ds
+pin-handed ds p = rw (inside 4 12 (length ds) (p .0) (p .1), p .2)
+
+pub handed-pin : (ds es : List ℕ) → pinHanded ds ≡ done es → IsPin ds × (ds ≡ es)
+handed-pin ds es h = let p = handed-done ds es h in (is-pin ds (p .1), p .0)

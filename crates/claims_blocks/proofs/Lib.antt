@@ -1,8 +1,10 @@
 pub mod Judged
 pub mod Lists
+pub mod Bytes
 pub mod Rows
 pub mod Table
 pub mod Trips
-pub mod Bytes
 pub mod Calls
 pub mod Figures
+pub mod Promises
+pub mod Numbers

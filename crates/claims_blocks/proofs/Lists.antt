@@ -19,11 +19,6 @@ module _ (p : ℕ → Bool) where
   every-drop (suc k) [] h = refl
   every-drop (suc k) (n ∷ ns) h = every-drop k ns (and-right (p n) (every p ns) h)
 
-  pub every-append : (ms ns : List ℕ) → every p ms ≡ true → every p ns ≡ true → every p (ms ++ ns) ≡ true
-  unfolding every
-  every-append [] ns h k = k
-  every-append (m ∷ ms) ns h k = rw (and-left (p m) (every p ms) h) (every-append ms ns (and-right (p m) (every p ms) h) k)
-
   -- the first of those that pass
   pub every-first : (ns : List ℕ) (z : ℕ) → 0 < length ns → every p ns ≡ true → p (getD ns 0 z) ≡ true
   unfolding every

@@ -3,6 +3,7 @@
 use Prim.Native.Nat.{ℕ, _+_, _≤_, _<_}
 use native.Mathlib.Omega.{arith}
 use mathlib.Core.Path.{_≡_, refl, sym, ap, ap₂, _∙_}
+use mathlib.Core.Logic.{inl, inr}
 use mathlib.Core.List.{List, [], _∷_, _++_}
 use mathlib.Core.Bool.{true, false, _&&_}
 use lib.ListN.{length, getD, take}
@@ -10,17 +11,19 @@ use lib.Seq.{slice, getD-drop, getD-take, length-slice}
 use lib.Dec.{eqb, leb·zero}
 use borrow.Author.Tests.{leb-false, eq-eqb, eqb-true}
 use Rattle.nibbles.specs.Nibbles.{within, every}
-use Rattle.nibbles.proofs.Laws.{and-left, and-right, inside, inside-high, over}
+use Rattle.nibbles.proofs.Laws.{and-left, and-right, inside, inside-low, inside-high, over}
 use Rattle.numbers.specs.Numbers.{Outcome, done, andThen, unless}
 use Rattle.numbers.specs.declared.Refusal.the-variants.{Block20, Length24}
+use Rattle.numbers.proofs.Laws.{then-done, passed}
 use Rattle.formats.specs.Formats.{leads, leadWidth, leastFill, fits}
 use Rattle.pins.specs.Pins.{digit, pinLength}
 use Rattle.blocks.specs.Blocks.{beforeF, counted}
+use Rattle.blocks.proofs.Laws.{lead-short}
 use Rattle.formats.specs.declared.Lead.{Lead}
 use Rattle.formats.specs.declared.Lead.the-variants.{Bare, Control}
 use Rattle.formats.specs.declared.Fill.{Fill}
 use Rattle.claims_blocks.specs.Claims.{IsPin}
-use Rattle.claims_blocks.proofs.Judged.{and-then, holds, judged, pin-parts, pin-made}
+use Rattle.claims_blocks.proofs.Judged.{judged, Only, Fault, test-only, then-only}
 use Rattle.claims_blocks.proofs.Lists.{every-first, every-wider, run-ends, run-is, middle-is, rest-is, three-parts}
 
 -- where nothing leads, the digits end at an F
@@ -64,11 +67,11 @@ pub shown-reads : (l : Lead) (k : Fill) (ns ds : List ℕ) → length ns ≤ 16 
 shown-reads l k ns ds h s =
     let n = length ds in
     let w = leadWidth l in
-    let p = pin-parts ds ds (s .pin) in
-    let count : counted l ns ≡ done n = ap (counted l) (sym (s .laid)) ∙ counts l ds (s .rest) (p .1) (s .ends) in
+    let p = s .pin in
+    let count : counted l ns ≡ done n = ap (counted l) (sym (s .laid)) ∙ counts l ds (s .rest) (p .2) (s .ends) in
     let digits : slice w (w + n) ns ≡ ds = ap (slice w (w + n)) (sym (s .laid)) ∙ middle-is (leads l n) ds (s .rest) w n (leads-length l n) refl in
     let behind : slice (w + n) 16 ns ≡ s .rest = ap (slice (w + n) 16) (sym (s .laid)) ∙ rest-is (leads l n) ds (s .rest) w n (leads-length l n) refl 16 (rw (s .laid) h) in
-    rw (count, p .0, digits, behind, p .1, s .fill)
+    rw (count, inside 4 12 n (p .0) (p .1), digits, behind, p .2, s .fill)
 
 -- what leads is what is written there
 leading-is : (l : Lead) (ns : List ℕ) (n : ℕ) → 2 ≤ length ns → counted l ns ≡ done n → take (leadWidth l) ns ≡ leads l n
@@ -76,7 +79,7 @@ leading-is Bare ns n h e = refl
 leading-is (Control c) [] n h e = absurd (omega arith)
 leading-is (Control c) (a ∷ []) n h e = absurd (omega arith)
 leading-is (Control c) (a ∷ b ∷ ns) n h e =
-    let t = holds Block20 (eqb a c) b n e in
+    let t = passed Block20 (eqb a c) b n e in
     ap₂ (λ (x y : ℕ). x ∷ y ∷ []) (eqb-true a c (t .0)) (t .1)
 
 -- what fails the test is over it
@@ -89,17 +92,13 @@ ending-is : (l : Lead) (k : Fill) (ns : List ℕ) (n : ℕ) → length ns ≡ 16
 ending-is Bare k ns n h small e f =
     let rest = slice (0 + n) 16 ns in
     let end = length (beforeF ns) in
-    let count : end ≡ n = holds Block20 (every digit (beforeF ns)) end n e .1 in
+    let count : end ≡ n = passed Block20 (every digit (beforeF ns)) end n e .1 in
     let here : getD rest 0 0 ≡ getD ns end 0 = getD-drop (0 + n) (take 16 ns) 0 0 ∙ getD-take 16 ns (0 + n + 0) 0 (omega arith) ∙ ap (λ (i : ℕ). getD ns i 0) (omega arith) in
     let high : 14 < getD ns end 0 = past 14 (getD ns end 0) (run-ends (within 0 14) ns 0 (omega arith)) in
     let some : 0 < length rest = rw (length-slice (0 + n) 16 ns (omega arith)) (omega arith) in
     let low : getD rest 0 0 ≤ 15 = inside-high (leastFill k) 15 (getD rest 0 0) (every-first (fits k) rest 0 some f) in
     omega arith
 ending-is (Control c) k ns n h small e f = tt
-
-pub lead-small : (l : Lead) → leadWidth l ≤ 2
-lead-small Bare = omega arith
-lead-small (Control c) = omega arith
 
 -- the PIN that is read is shown
 shown : (l : Lead) (k : Fill) (ns ds : List ℕ) (n : ℕ) → length ns ≡ 16 → counted l ns ≡ done n → andThen (pinLength n) (contentsAs l k ns) ≡ done ds → Shows l k ns ds
@@ -108,11 +107,11 @@ shown l k ns ds n h c r =
     let p = judged Length24 (within 4 12 n) n (contentsAs l k ns) ds r in
     let digits = every digit (slice w (w + n) ns) in
     let fill = every (fits k) (slice (w + n) 16 ns) in
-    let v = holds Block20 (digits && fill) (slice w (w + n) ns) ds (p .1) in
+    let v = passed Block20 (digits && fill) (slice w (w + n) ns) ds (p .1) in
     let small : n ≤ 12 = inside-high 4 12 n (p .0) in
-    let size : length ds ≡ n = ap length (sym (v .1)) ∙ length-slice w (w + n) ns (omega (arith, lead-small l)) ∙ omega arith in
+    let size : length ds ≡ n = ap length (sym (v .1)) ∙ length-slice w (w + n) ns (omega (arith, lead-short l)) ∙ omega arith in
     record {
-      pin = pin-made ds (rw size (p .0)) (rw (v .1) at (and-left digits fill (v .0)));
+      pin = (rw size (inside-low 4 12 n (p .0)), rw size small, rw (v .1) at (and-left digits fill (v .0)));
       rest = slice (w + n) 16 ns;
       laid = rw (size, ← v .1, ← leading-is l ns n (omega arith) c) (three-parts w n 16 ns (omega arith));
       fill = and-right digits fill (v .0);
@@ -121,5 +120,17 @@ shown l k ns ds n h c r =
 
 pub reads-shown : (l : Lead) (k : Fill) (ns ds : List ℕ) → length ns ≡ 16 → readAs l k ns ≡ done ds → Shows l k ns ds
 reads-shown l k ns ds h r =
-    let c = and-then (counted l ns) (λ n. andThen (pinLength n) (contentsAs l k ns)) ds r in
+    let c = then-done (counted l ns) (λ n. andThen (pinLength n) (contentsAs l k ns)) ds r in
     shown l k ns ds (c .0) h (c .1) (c .2)
+
+-- a row is refused for its contents only
+count-faults : (l : Lead) (ns : List ℕ) → Only Fault (counted l ns)
+count-faults Bare ns = test-only Fault Block20 (inl refl) (every digit (beforeF ns)) (length (beforeF ns))
+count-faults (Control c) ns = test-only Fault Block20 (inl refl) (eqb (getD ns 0 0) c) (getD ns 1 0)
+
+pub reads-faults : (l : Lead) (k : Fill) (ns : List ℕ) → Only Fault (readAs l k ns)
+reads-faults l k ns =
+    let w = leadWidth l in
+    then-only Fault (counted l ns) (λ n. andThen (pinLength n) (contentsAs l k ns)) (count-faults l ns)
+    (λ n. then-only Fault (pinLength n) (contentsAs l k ns) (test-only Fault Length24 (inr refl) (within 4 12 n) n)
+    (λ m. test-only Fault Block20 (inl refl) (every digit (slice w (w + m) ns) && every (fits k) (slice (w + m) 16 ns)) (slice w (w + m) ns)))

@@ -8,12 +8,12 @@ use mathlib.Core.Bool.{true}
 use lib.ListN.{length}
 use Rattle.nibbles.specs.Nibbles.{within, every}
 use Rattle.nibbles.proofs.Laws.{and-left, and-right, inside, inside-high, inside-low}
-use Rattle.formats.specs.Formats.{leadOf, fillRead, fillWritten, leads, fits, filled}
+use Rattle.formats.specs.Formats.{leadOf, fillRead, fillWritten, fits, filled}
 use Rattle.formats.specs.declared.Format.{Format}
 use Rattle.formats.specs.declared.Format.the-variants.{F01, F03, F05, F34, F35, F47}
 use Rattle.formats.specs.declared.Fill.{Fill}
 use Rattle.formats.specs.declared.Fill.the-variants.{F, AToF, Any}
-use Rattle.claims_blocks.specs.Claims.{Carries}
+use Rattle.claims_blocks.specs.Claims.{Carries, CarriesFive}
 use Rattle.claims_blocks.proofs.Rows.{Ends}
 
 -- a fill nibble that is written is read as one
@@ -35,6 +35,9 @@ fill-ends F34 (n ∷ ns) h = tt
 fill-ends F35 (n ∷ ns) h = tt
 fill-ends F47 (n ∷ ns) h = tt
 
+pub carries-five : CarriesFive
+carries-five = (tt, tt, tt, tt, tt, λ c. c)
+
 -- where the length is carried, fill is written as it is read
 pub same-fill : (f : Format) → Carries f → fillWritten f ≡ fillRead f
 same-fill F01 c = refl
@@ -43,16 +46,6 @@ same-fill F05 c = refl
 same-fill F34 c = refl
 same-fill F35 c = refl
 same-fill F47 c = refl
-
--- what leads is nibbles
-pub lead-nibbles : (f : Format) (n : ℕ) → within 0 15 n ≡ true → every (within 0 15) (leads (leadOf f) n) ≡ true
-unfolding every
-lead-nibbles F01 n h = rw h
-lead-nibbles F03 n h = refl
-lead-nibbles F05 n h = rw h
-lead-nibbles F34 n h = rw h
-lead-nibbles F35 n h = rw h
-lead-nibbles F47 n h = rw h
 
 -- a nibble of the fill that is written as this fill nibble
 abbrev pub unfilled : Fill → ℕ → ℕ

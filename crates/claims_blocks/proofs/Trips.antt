@@ -1,25 +1,26 @@
 -- What is written shows its PIN; what shows a PIN is written by it.
 -- Assumes nothing.
-use Prim.Native.Nat.{ℕ, suc, _+_, _≤_}
+use Prim.Native.Nat.{ℕ, suc, _+_}
 use native.Mathlib.Omega.{arith}
 use mathlib.Core.Path.{_≡_, refl, sym, ap, _∙_}
 use mathlib.Core.List.{List, [], _∷_, _++_, map}
 use mathlib.Core.Bool.{Bool, true, false}
 use lib.ListN.{length, getD, take, drop, length-append, length-drop, length-map, take-append-drop}
 use lib.Seq.{take-append-add, take-append-seam, take-take, getD-take, getD-drop, getD-append-add}
-use Rattle.nibbles.specs.Nibbles.{within, every}
-use Rattle.nibbles.proofs.Laws.{inside, inside-high, xors-twice}
+use Rattle.nibbles.specs.Nibbles.{within}
+use Rattle.nibbles.proofs.Laws.{xors-twice}
 use Rattle.numbers.specs.Numbers.{done}
-use Rattle.formats.specs.Formats.{leadOf, fillRead, fillWritten, veiled, leads, leadWidth, leastFill, fits, filled}
+use Rattle.formats.specs.Formats.{leadOf, fillRead, fillWritten, veiled, leads, leadWidth, fits, filled}
 use Rattle.blocks.specs.Blocks.{veil, clearRow, contents, readRow, writeRow}
+use Rattle.blocks.proofs.Laws.{lead-short}
 use Rattle.formats.specs.declared.Format.{Format}
 use Rattle.formats.specs.declared.Lead.the-variants.{Bare}
 use Rattle.formats.specs.declared.Fill.the-variants.{Any}
 use Rattle.claims_blocks.specs.Claims.{IsPin, IsRow, Carries, RoundTrip, RefusedExactly, AcceptedIn03}
-use Rattle.claims_blocks.proofs.Judged.{not-both, not-done, pin-parts}
-use Rattle.claims_blocks.proofs.Lists.{behind-is, every-append, every-wider, every-drop, every-map, drop-map, xors-length, xors-nibbles}
-use Rattle.claims_blocks.proofs.Table.{fill-agrees, fill-ends, same-fill, lead-nibbles, unfilled, unfilled-nibble, refilled}
-use Rattle.claims_blocks.proofs.Rows.{Shows, readAs, leads-length, lead-small, shown-reads, reads-shown}
+use Rattle.claims_blocks.proofs.Judged.{Only, Fault, not-done, not-refused}
+use Rattle.claims_blocks.proofs.Lists.{behind-is, every-drop, every-map, drop-map, xors-length, xors-nibbles}
+use Rattle.claims_blocks.proofs.Table.{fill-agrees, fill-ends, same-fill, unfilled, unfilled-nibble, refilled}
+use Rattle.claims_blocks.proofs.Rows.{Shows, readAs, leads-length, shown-reads, reads-shown, reads-faults}
 
 -- ---- the veil
 
@@ -28,30 +29,11 @@ veil-twice : (on : Bool) (with ns : List ℕ) → length ns ≡ length with → 
 veil-twice true with ns h = xors-twice ns with h
 veil-twice false with ns h = refl
 
-pub veil-length : (on : Bool) (with ns : List ℕ) → length ns ≡ length with → length (veil on with ns) ≡ length ns
-veil-length true with ns h = xors-length ns with h
-veil-length false with ns h = refl
-
 pub veil-row : (on : Bool) (with ns : List ℕ) → IsRow with → IsRow ns → IsRow (veil on with ns)
 veil-row true with ns w r = (xors-length ns with (omega arith) ∙ r .0, xors-nibbles ns with (r .1) (w .1))
 veil-row false with ns w r = r
 
 -- ---- the round trip
-
--- a test that admits only nibbles
-nibble-of : (low high : ℕ) → high ≤ 15 → (n : ℕ) → within low high n ≡ true → within 0 15 n ≡ true
-nibble-of low high h n k = inside 0 15 n (omega arith) (omega (arith, inside-high low high n k))
-
--- a row that shows a PIN holds nibbles
-shown-nibbles : (f : Format) (ns ds : List ℕ) → Shows (leadOf f) (fillRead f) ns ds → every (within 0 15) ns ≡ true
-shown-nibbles f ns ds s =
-    let parts = pin-parts ds ds (s .pin) in
-    let n = length ds in
-    let front = leads (leadOf f) n in
-    let leading = lead-nibbles f n (nibble-of 4 12 (omega arith) n (parts .0)) in
-    let digits = every-wider (within 0 9) (within 0 15) (nibble-of 0 9 (omega arith)) ds (parts .1) in
-    let fill = every-wider (fits (fillRead f)) (within 0 15) (nibble-of (leastFill (fillRead f)) 15 (omega arith)) (s .rest) (s .fill) in
-    rw (s .laid) at (every-append (within 0 15) (front ++ ds) (s .rest) (every-append (within 0 15) front ds leading digits) fill)
 
 -- the nibbles of the fill that are used
 abbrev used : Format → List ℕ → List ℕ → List ℕ
@@ -59,34 +41,26 @@ used f ds fill = drop (leadWidth (leadOf f) + length ds) fill
 
 module _ (f : Format) (ds fill : List ℕ) (p : IsPin ds) (r : IsRow fill) where
   used-length : leadWidth (leadOf f) + length ds + length (used f ds fill) ≡ 16
-  used-length =
-      let small = inside-high 4 12 (length ds) (pin-parts ds ds p .0) in
-      rw (length-drop (leadWidth (leadOf f) + length ds) fill) (omega (arith, lead-small (leadOf f)))
+  used-length = rw (length-drop (leadWidth (leadOf f) + length ds) fill) (omega (arith, lead-short (leadOf f)))
 
   written-shows : Shows (leadOf f) (fillRead f) (clearRow f ds fill) ds
   written-shows =
-      let small = inside-high 4 12 (length ds) (pin-parts ds ds p .0) in
       let nibbles = every-drop (within 0 15) (leadWidth (leadOf f) + length ds) fill (r .1) in
       record {
         pin = p;
         rest = map (filled (fillWritten f)) (used f ds fill);
         laid = refl;
         fill = every-map (within 0 15) (fits (fillRead f)) (filled (fillWritten f)) (fill-agrees f) (used f ds fill) nibbles;
-        ends = fill-ends f (used f ds fill) (omega (arith, used-length, lead-small (leadOf f)));
+        ends = fill-ends f (used f ds fill) (omega (arith, used-length, lead-short (leadOf f)));
       }
 
-  clear-row : IsRow (clearRow f ds fill)
-  clear-row = (simp (length-append, length-map, leads-length) used-length, shown-nibbles f (clearRow f ds fill) ds written-shows)
-
--- what is written is a row
-pub written-row : (f : Format) (with ds fill : List ℕ) → IsRow with → IsPin ds → IsRow fill → IsRow (writeRow f with ds fill)
-unfolding writeRow
-written-row f with ds fill w p r = veil-row (veiled f) with (clearRow f ds fill) w (clear-row f ds fill p r)
+  clear-length : length (clearRow f ds fill) ≡ 16
+  clear-length = simp (length-append, length-map, leads-length) used-length
 
 pub round-trip : RoundTrip
 unfolding readRow writeRow contents
 round-trip f with ds fill w p r =
-    let sixteen = clear-row f ds fill p r .0 in
+    let whole = clear-length f ds fill p r in
     ap (readAs (leadOf f) (fillRead f)) (veil-twice (veiled f) with (clearRow f ds fill) (omega arith))
     ∙ shown-reads (leadOf f) (fillRead f) (clearRow f ds fill) ds (omega arith) (written-shows f ds fill p r)
 
@@ -111,11 +85,10 @@ shown-writes f ns ds c s =
     let behind : drop (w + n) ns ≡ s .rest = ap (drop (w + n)) (sym (s .laid)) ∙ behind-is (leads (leadOf f) n) ds (s .rest) w n (leads-length (leadOf f) n) refl in
     rw (same-fill f c, drop-map (unfilled k) (w + n) ns, behind, refilled k (s .rest) (s .fill)) (s .laid)
 
--- what is read is a PIN
-pub read-pin : (f : Format) (with ns ds : List ℕ) → length with ≡ 16 → length ns ≡ 16 → readRow f with ns ≡ done ds → IsPin ds
+-- a block is refused for its contents only
+pub read-faults : (f : Format) (with ns : List ℕ) → Only Fault (readRow f with ns)
 unfolding readRow contents
-read-pin f with ns ds w r e =
-    reads-shown (leadOf f) (fillRead f) (veil (veiled f) with ns) ds (veil-length (veiled f) with ns (omega arith) ∙ r) e .pin
+read-faults f with ns = reads-faults (leadOf f) (fillRead f) (veil (veiled f) with ns)
 
 -- a block that is accepted is written by the PIN that was read, with the fill taken from the clear block
 pub accepted-written : (f : Format) (with ns ds : List ℕ) → Carries f → IsRow with → IsRow ns → readRow f with ns ≡ done ds
@@ -128,8 +101,8 @@ accepted-written f with ns ds c w r e =
 
 pub refused-exactly : RefusedExactly
 refused-exactly f c with ns w r = (
-  λ h ds fill p q e. not-both (readRow f with ns) (h .0) ds (h .1) (ap (readRow f with) (sym e) ∙ round-trip f with ds fill w p q),
-  λ h. not-done (readRow f with ns) (λ ds e.
+  λ h ds fill p q e. not-refused (readRow f with ns) ds h (ap (readRow f with) (sym e) ∙ round-trip f with ds fill w p q),
+  λ h. not-done (readRow f with ns) (read-faults f with ns) (λ ds e.
       let clear = veil (veiled f) with ns in
       let a = accepted-written f with ns ds c w r e in
       h ds (fillOf f clear) (a .0) (fill-row f clear (veil-row (veiled f) with ns w r)) (a .1)),

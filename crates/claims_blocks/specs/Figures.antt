@@ -24,6 +24,16 @@ usualAccount = 0x34 ∷ 0x30 ∷ 0x30 ∷ 0x30 ∷ 0x30 ∷ 0x30 ∷ 0x31 ∷ 0x
 abbrev pub usualPin : List ℕ
 usualPin = 3 ∷ 4 ∷ 5 ∷ 6 ∷ 7 ∷ []
 
+-- the PIN of P6
+abbrev pub longPin : List ℕ
+longPin = 1 ∷ 2 ∷ 3 ∷ 4 ∷ 5 ∷ 6 ∷ 7 ∷ 8 ∷ 9 ∷ 0 ∷ 1 ∷ 2 ∷ []
+
+abbrev pub blockP1 : List ℕ
+blockP1 = 0x25 ∷ 0x34 ∷ 0x16 ∷ 0x7F ∷ 0xFF ∷ 0xED ∷ 0xCB ∷ 0xA9 ∷ []
+
+abbrev pub blockP6 : List ℕ
+blockP6 = 0x2C ∷ 0x12 ∷ 0x34 ∷ 0x56 ∷ 0x78 ∷ 0x90 ∷ 0x12 ∷ 0xFF ∷ []
+
 -- a block that is written, with fill bytes 00, and that reads back
 abbrev pub written : ℕ → List ℕ → List ℕ → Figure
 written code pin block = record {
@@ -42,7 +52,7 @@ unread code block q = record {
 abbrev pub blockFigures : List Figure
 blockFigures =
     -- P1
-    written 35 usualPin (0x25 ∷ 0x34 ∷ 0x16 ∷ 0x7F ∷ 0xFF ∷ 0xED ∷ 0xCB ∷ 0xA9 ∷ [])
+    written 35 usualPin blockP1
     -- P2
     ∷ written 1 usualPin (0x05 ∷ 0x34 ∷ 0x16 ∷ 0x7F ∷ 0xFF ∷ 0xED ∷ 0xCB ∷ 0xA9 ∷ [])
     -- P3
@@ -52,7 +62,7 @@ blockFigures =
     -- P5
     ∷ written 3 usualPin (0x34 ∷ 0x56 ∷ 0x7F ∷ 0xFF ∷ 0xFF ∷ 0xFF ∷ 0xFF ∷ 0xFF ∷ [])
     -- P6
-    ∷ written 34 (1 ∷ 2 ∷ 3 ∷ 4 ∷ 5 ∷ 6 ∷ 7 ∷ 8 ∷ 9 ∷ 0 ∷ 1 ∷ 2 ∷ []) (0x2C ∷ 0x12 ∷ 0x34 ∷ 0x56 ∷ 0x78 ∷ 0x90 ∷ 0x12 ∷ 0xFF ∷ [])
+    ∷ written 34 longPin blockP6
     -- P7
     ∷ unread 34 (0x23 ∷ 0x12 ∷ 0x3F ∷ 0xFF ∷ 0xFF ∷ 0xFF ∷ 0xFF ∷ 0xFF ∷ []) Length24
     ∷ unread 34 (0x2D ∷ 0x12 ∷ 0x34 ∷ 0x56 ∷ 0x78 ∷ 0x90 ∷ 0x12 ∷ 0x3F ∷ []) Length24

@@ -3,16 +3,29 @@
 use Prim.Native.Nat.{ℕ, zero, suc, _+_, _-_, _≤_, _<_}
 use native.Mathlib.Omega.{arith}
 use native.Mathlib.Nat.{not-suc-le-zero, le-of-suc-le-suc, mod-lt}
-use mathlib.Core.Path.{_≡_, refl, sym, ap, ap₂, _∙_}
+use mathlib.Core.Path.{_≡_, refl, sym, ap, ap₂, _∙_, subst}
 use mathlib.Core.List.{List, [], _∷_, _++_, map}
 use lib.ListN.{length, getD, take, drop, replicate, length-map, length-append, length-drop, length-replicate, getD-replicate}
 use lib.Seq.{length-take-le, getD-take, getD-drop, take-at, drop-at, getD-append-add, drop-append-add, drop-drop}
-use lib.Dec.{lit<}
+use lib.Dec.{lit<, leb, eqb}
 use lib.IntN.{ℤ, pos, negsuc}
-use Rattle.nibbles.specs.Nibbles.{row, within}
-use Rattle.nibbles.proofs.Laws.{Below, row-length, row-at-lt, map-at, map-below, row-at-less, below-at, every-below}
-use Rattle.alphabet.specs.Alphabet.{characters}
-use Rattle.ibm3624.specs.Ibm3624.{decimal, naturalOf, lastOf, difference, differences, moduloTen, covered, offsetOf, offsetText}
+use borrow.Author.Tests.{eqb-true, leb-true}
+use Rattle.nibbles.specs.Nibbles.{row, within, word}
+use Rattle.nibbles.proofs.Laws.{Below, row-length, row-at-lt, map-at, map-below, row-at-less, below-at, every-below, row-word, inside-high}
+use Rattle.alphabet.specs.Alphabet.{characters, allOf, valueOf}
+use Rattle.ibm3624.specs.Ibm3624.{decimal, naturalOf, lastOf, difference, differences, moduloTen, covered, offsetOf, offsetText, tableSized, tableOf, naturalPin}
+use Rattle.alphabet.specs.declared.Class.the-variants.{Digit}
+use Rattle.alphabet.proofs.Laws.{value-below}
+use Rattle.numbers.specs.Numbers.{done, refused, unless}
+use Rattle.numbers.specs.declared.Refusal.{Refusal}
+use Rattle.numbers.specs.declared.Refusal.the-variants.{Field15, Length24, Table25, Room901}
+use Rattle.numbers.proofs.Laws.{passed, failed, then-done, value-of}
+use Rattle.pins.specs.Pins.{pinLength, sized}
+use Rattle.pins.specs.Answers.{rowOf}
+use Rattle.pins.specs.declared.Row.{Row}
+use Rattle.pins.specs.declared.Row.the-variants.{Held, Refused}
+use Rattle.pins.proofs.Laws.{row-held, row-refused, block-row}
+use Rattle.blocks.proofs.Laws.{Digital}
 use Rattle.ibm3624.specs.Answers.{Matched}
 
 below-take : (m k : ℕ) (xs : List ℕ) → Below m xs → Below m (take k xs)
@@ -154,3 +167,48 @@ module _ (m : ℕ) (head d out : List ℕ) (e : out ≡ head ++ drop m d) (l : l
       let t : m + (k - m) ≡ k = omega arith in
       ap (drop k) e ∙ ap (λ (n : ℕ). drop n (head ++ drop m d)) (sym s) ∙ drop-append-add head (drop m d) (k - m) ∙ drop-drop (k - m) m d
       ∙ ap (λ (n : ℕ). drop n d) t
+
+-- ---- the table
+
+pub table-done : (cs ts : List ℕ) → tableOf cs ≡ done ts → map valueOf cs ≡ ts
+table-done cs ts e = passed Table25 (allOf Digit cs) (map valueOf cs) ts e .1
+
+module _ (cs : List ℕ) (r : Row) (e : r ≡ rowOf (tableOf cs)) where
+  pub table-held : (v : ℕ) → r ≡ Held v → (ts : List ℕ) × (tableOf cs ≡ done ts) × (v ≡ word ts)
+  table-held v h = row-held (tableOf cs) v (sym h ∙ e)
+
+  pub table-not : (q : Refusal) → r ≡ Refused q → tableOf cs ≡ refused Table25
+  table-not q h = failed Table25 q (allOf Digit cs) (map valueOf cs) (row-refused (tableOf cs) q (sym h ∙ e)) .1
+
+-- the row of a table of sixteen digits
+pub table-row : (cs ts : List ℕ) (w : ℕ) → length cs ≡ 16 → tableOf cs ≡ done ts → w ≡ word ts → row 16 w ≡ ts
+table-row cs ts w l e h =
+    let s : map valueOf cs ≡ ts = table-done cs ts e in
+    let n : length ts ≡ 16 = ap length (sym s) ∙ length-map cs valueOf ∙ l in
+    ap (row 16) h ∙ ap (λ (k : ℕ). row k (word ts)) (sym n) ∙ row-word ts (rw (← s) (map-below 16 valueOf value-below cs))
+
+pub natural-digital : (n : ℕ) (table enciphered : List ℕ) (room : ℕ) → Below 256 enciphered → Digital (naturalPin n table enciphered room) room
+unfolding naturalPin
+natural-digital n table enciphered room b ds e =
+    let r = then-done (unless Room901 (leb 12 room) room) _ ds e in
+    let t = then-done (tableSized table) _ ds (r .2) in
+    let s = then-done (sized 8 enciphered) _ ds (t .2) in
+    let ts = then-done (tableOf table) _ ds (s .2) in
+    let k = then-done (pinLength n) _ ds (ts .2) in
+    let p = passed Length24 (within 4 12 n) n (k .0) (k .1) in
+    let small : k .0 ≤ 12 = subst (λ (x : ℕ). x ≤ 12) (p .1) (inside-high 4 12 n (p .0)) in
+    let sixteen : length table ≡ 16 = eqb-true _ _ (passed Field15 (eqb (length table) 16) table (t .0) (t .1) .0) in
+    let tr = table-row table (ts .0) (word (ts .0)) sixteen (ts .1) refl in
+    let er = block-row enciphered (s .0) (word (s .0)) (s .1) b refl in
+    let whole : naturalOf (k .0) (row 16 (word (ts .0))) (row 16 (word (s .0))) ≡ ds = ap₂ (naturalOf (k .0)) tr er ∙ value-of (k .2) in
+    let long = ap length (sym whole) ∙ natural-length (k .0) (word (ts .0)) (word (s .0)) (omega arith) in
+    let room-for = leb-true 12 room (passed Room901 (leb 12 room) room (r .0) (r .1) .0) in
+    (omega arith, omega arith, rw (← whole) (natural-below (k .0) (word (ts .0)) (word (s .0)) (omega arith)))
+
+-- ---- the natural PIN of any rows
+
+pub natural-long : (n : ℕ) (ts es : List ℕ) → n ≤ length es → length (naturalOf n ts es) ≡ n
+natural-long n ts es h = length-take-le n (map (decimal ts) es) (rw (length-map es (decimal ts)) h)
+
+pub natural-digits : (n : ℕ) (ts es : List ℕ) → Below 10 ts → Below 10 (naturalOf n ts es)
+natural-digits n ts es b = below-take 10 n (map (decimal ts) es) (map-below 10 (decimal ts) (λ x. below-at 10 ts x (lit< tt) b) es)

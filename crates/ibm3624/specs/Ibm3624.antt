@@ -9,8 +9,8 @@ use Rattle.nibbles.specs.Nibbles.{within, every, leading}
 use Rattle.alphabet.specs.Alphabet.{admits, allOf, valueOf, characters}
 use Rattle.alphabet.specs.declared.Class.the-variants.{Digit}
 use Rattle.numbers.specs.Numbers.{Outcome, done, andThen, unless}
-use Rattle.numbers.specs.declared.Refusal.the-variants.{Field15, Length24, Table25, Check81}
-use Rattle.pins.specs.Pins.{digitsHanded}
+use Rattle.numbers.specs.declared.Refusal.the-variants.{Field15, Length24, Table25, Check81, Room901}
+use Rattle.pins.specs.Pins.{digitsHanded, pinLength, sized}
 
 -- ---- the natural PIN
 
@@ -33,6 +33,16 @@ naturalOf n table es = take n (map (decimal table) es)
 -- "a natural PIN handed in with another length than its PIN" is 24, and a digit over 9 in it is 20 before that
 abbrev pub naturalHanded : ℕ → List ℕ → Outcome (List ℕ)
 naturalHanded n ds = andThen (digitsHanded ds) (λ _. unless Length24 (eqb (length ds) n) ds)
+
+-- the call that makes a natural PIN: 901, 15 for table and enciphered block, 25, 24
+unfoldable pub naturalPin : ℕ → List ℕ → List ℕ → ℕ → Outcome (List ℕ)
+naturalPin n table enciphered room =
+    andThen (unless Room901 (leb 12 room) room)
+    (λ _. andThen (tableSized table)
+    (λ _. andThen (sized 8 enciphered)
+    (λ es. andThen (tableOf table)
+    (λ ts. andThen (pinLength n)
+    (λ k. done (naturalOf k ts es))))))
 
 -- ---- the digits that an offset covers
 

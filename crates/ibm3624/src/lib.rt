@@ -4,13 +4,14 @@ ghost use mathlib.Core.List.{_++_};
 ghost use Prim.Native.Nat.{_≤_};
 ghost use lib.ListN.{length, drop};
 ghost use Rattle.nibbles.specs.Nibbles.{word, row, within, every};
-ghost use Rattle.pins.specs.Answers.{pinOf, rowOf, readingOf};
-ghost use Rattle.blocks.specs.Answers.{countOf};
-ghost use Rattle.ibm3624.specs.Ibm3624.{tableOf, naturalOf, covers, difference, moduloTen, covered, offsetOf, offsetText, offsetPresented};
+ghost use Rattle.numbers.specs.Promise.{Does, quietly};
+ghost use Rattle.pins.specs.Answers.{countOf, pinOf, rowOf, readingOf};
+ghost use Rattle.ibm3624.specs.Ibm3624.{tableOf, naturalOf, naturalPin, covers, difference, moduloTen, covered, offsetOf, offsetText, offsetPresented};
 ghost use Rattle.ibm3624.specs.Answers.{Matched};
 use alphabet::Class;
-use blocks::Count;
 use numbers::Refusal;
+use numbers::Reply;
+use pins::Count;
 use pins::Pin;
 use pins::Reading;
 use pins::Row;
@@ -155,4 +156,37 @@ pub fn presented(characters: &[u8]) -> Reading
         length: n,
         digits: pins::values(&characters[..n]),
     })
+}
+
+// Judges the call that makes a natural PIN: 901, 15 for table and enciphered block, 25, 24.
+fn judged_natural(length: u32, table: &[u8], enciphered: &[u8], room: usize) -> Reading
+    ensures { λ r. ⌜ r ≡ readingOf (naturalPin length (now (table .entry)) (now (enciphered .entry)) room) ⌝ }
+{
+    if room < 12 {
+        return Reading::Bad(Refusal::Room901);
+    }
+    if table.len() != 16 {
+        return Reading::Bad(Refusal::Field15);
+    }
+    let sealed = pins::sized_row(enciphered, 8);
+    let Row::Held(cipher) = sealed else {
+        return Reading::Bad(Refusal::Field15);
+    };
+    let decimal = decimals(table);
+    let Row::Held(digits) = decimal else {
+        return Reading::Bad(Refusal::Table25);
+    };
+    let measured = pins::pin_length(length as usize);
+    let Count::Of(n) = measured else {
+        return Reading::Bad(Refusal::Length24);
+    };
+    Reading::Got(natural(n, digits, cipher))
+}
+
+// Makes a natural PIN and writes its digits as values.
+pub fn natural_pin(length: u32, table: &[u8], enciphered: &[u8], out: &mut [u8]) -> Reply
+    ensures { λ r. ⌜ Does (quietly (naturalPin length (now (table .entry)) (now (enciphered .entry)) (lib.ListN.length (now (out .entry))))) (now (out .entry)) r (now (out .exit)) ⌝ }
+{
+    let judged = judged_natural(length, table, enciphered, out.len());
+    blocks::answer_digits(judged, out)
 }

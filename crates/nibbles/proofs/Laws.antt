@@ -1,7 +1,7 @@
 -- Laws of rows, words and bytes, each over every length.
 -- Assumes nothing.
 use Prim.Native.Nat.{ℕ, zero, suc, _+_, _-_, _*_, _/_, _%_, _^_, _≤_, _<_, zero-le, suc-le-suc}
-use native.Mathlib.Nat.{mod-lt, pow-suc, le-of-suc-le-suc, not-suc-le-zero, div-div-eq-div-mul, div-add-mod', pow-le-pow-right, lt-of-lt-of-le, mul-comm, mul-assoc, one-mul, zero-add, suc-add}
+use native.Mathlib.Nat.{mod-lt, mod-eq-of-lt, pow-suc, le-of-suc-le-suc, not-suc-le-zero, div-div-eq-div-mul, div-add-mod', pow-le-pow-right, lt-of-lt-of-le, mul-comm, mul-assoc, one-mul, zero-add, suc-add}
 use native.Mathlib.Omega.{arith}
 use native.Mathlib.Numerals.{add-one}
 use mathlib.Core.Path.{_≡_, refl, sym, ap, ap₂, _∙_, subst}
@@ -448,3 +448,12 @@ not-f k {n} h = go (within k k n) refl
     go : (b : Bool) → within k k n ≡ b → b ≡ false
     go true e = absurd (h (let l = inside-low k k n e in let g = inside-high k k n e in omega arith))
     go false e = refl
+
+pub below-every : (high : ℕ) (xs : List ℕ) → Below (suc high) xs → every (within 0 high) xs ≡ true
+unfolding every
+below-every high [] b = refl
+below-every high (x ∷ xs) b = rw (inside 0 high x zero-le (le-of-suc-le-suc (b .0))) (below-every high xs (b .1))
+
+-- a word of 64 bits is the word of its row
+pub word-back : (w : ℕ) → w < 2 ^ 64 → word (row 16 w) ≡ w
+word-back w h = word-row 16 w ∙ mod-eq-of-lt h

@@ -3,14 +3,14 @@
 use Prim.Native.Nat.{ℕ, _+_, _-_, _^_, _≤_, _<_}
 use native.Mathlib.Omega.{arith}
 use mathlib.Core.Path.{_≡_, refl, sym, ap, _∙_}
-use mathlib.Core.List.{List, _++_, map}
+use mathlib.Core.List.{List, _++_, map, [], _∷_}
 use mathlib.Core.Bool.{true, _&&_}
 use lib.ListN.{length, replicate, length-map}
-use lib.Dec.{eqb, lit<, lit≤}
-use borrow.Author.Tests.{eqb-true}
+use lib.Dec.{eqb, lit<, lit≤, leb}
+use borrow.Author.Tests.{eqb-true, leb-true, lt-leb}
 use Rattle.nibbles.specs.Nibbles.{nibs, word, row, within, every}
-use Rattle.nibbles.proofs.Laws.{Below, every-below, below-weaken, map-below, inside-low, inside-high, and-left, row-length, row-below, row-word, word-lt, word-under, nibs-length, nibs-below}
-use Rattle.alphabet.specs.Alphabet.{allOf, valueOf}
+use Rattle.nibbles.proofs.Laws.{Below, every-below, below-weaken, map-below, inside-low, inside-high, and-left, row-length, row-below, row-word, word-lt, word-under, nibs-length, nibs-below, and-right}
+use Rattle.alphabet.specs.Alphabet.{admits, allOf, valueOf}
 use Rattle.alphabet.proofs.Laws.{value-below}
 use Rattle.alphabet.specs.declared.Class.the-variants.{Digit}
 use Rattle.numbers.specs.Numbers.{Outcome, done, refused}
@@ -18,11 +18,23 @@ use Rattle.numbers.proofs.Laws.{passed, failed, then-done}
 use Rattle.numbers.specs.declared.Refusal.{Refusal}
 use Rattle.numbers.specs.declared.Refusal.the-variants.{Field15, Block20, Length24}
 use Rattle.pins.specs.Pins.{digit, pinLength, pinHanded, digitsHanded, padded, accountOf, accountField, sized}
-use Rattle.pins.specs.Answers.{pinOf, readingOf, rowOf}
+use Rattle.pins.specs.Answers.{countOf, pinOf, readingOf, rowOf}
 use Rattle.pins.specs.declared.Pin.{Pin}
-use Rattle.pins.specs.declared.Reading.the-variants.{Got, Bad}
+use Rattle.pins.specs.declared.Count.the-variants.{Of, Bad}
+use Rattle.pins.specs.declared.Reading.the-variants as reading
+use Rattle.pins.specs.declared.Reading.the-variants.{Got}
 use Rattle.pins.specs.declared.Row.{Row}
 use Rattle.pins.specs.declared.Row.the-variants.{Held, Refused}
+
+-- ---- behind a count
+
+pub count-of : (o : Outcome ℕ) (n : ℕ) → Of n ≡ countOf o → o ≡ done n
+count-of (done m) n e = cc
+count-of (refused q) n e = absurd (let z : _≡_ {A = ℕ} 0 1 = cc in omega arith)
+
+pub count-bad : (o : Outcome ℕ) (q : Refusal) → Bad q ≡ countOf o → o ≡ refused q
+count-bad (done m) q e = absurd (let z : _≡_ {A = ℕ} 0 1 = cc in omega arith)
+count-bad (refused p) q e = cc
 
 -- ---- behind a row
 
@@ -40,7 +52,7 @@ pub reading-got : (o : Outcome (List ℕ)) (p : Pin) → Got p ≡ readingOf o �
 reading-got (done ds) p e = (ds, refl, cc)
 reading-got (refused q) p e = absurd (let z : _≡_ {A = ℕ} 0 1 = cc in omega arith)
 
-pub reading-bad : (o : Outcome (List ℕ)) (q : Refusal) → Bad q ≡ readingOf o → o ≡ refused q
+pub reading-bad : (o : Outcome (List ℕ)) (q : Refusal) → reading.Bad q ≡ readingOf o → o ≡ refused q
 reading-bad (done ds) q e = absurd (let z : _≡_ {A = ℕ} 0 1 = cc in omega arith)
 reading-bad (refused p) q e = cc
 
@@ -128,3 +140,18 @@ module _ (cs : List ℕ) (r : Row) (e : r ≡ rowOf (accountOf cs)) where
   pub account-not : (q : Refusal) → r ≡ Refused q → accountOf cs ≡ refused Field15
   account-not q h =
       failed Field15 q (eqb (length cs) 12 && allOf Digit cs) (padded (map valueOf cs)) (row-refused (accountOf cs) q (sym h ∙ e)) .1
+
+-- ---- digits
+
+-- a digit stands for 0 to 9
+digit-value : (c : ℕ) → admits Digit c ≡ true → valueOf c < 10
+unfolding valueOf
+digit-value c e =
+    let low = leb-true 0x30 c (and-left (leb 0x30 c) (leb c 0x39) e) in
+    let high = leb-true c 0x39 (and-right (leb 0x30 c) (leb c 0x39) e) in
+    rw (lt-leb 0x41 c (omega arith)) (omega arith)
+
+pub digits-below : (cs : List ℕ) → allOf Digit cs ≡ true → Below 10 (map valueOf cs)
+unfolding allOf
+digits-below [] e = tt
+digits-below (c ∷ cs) e = (digit-value c (and-left (admits Digit c) (allOf Digit cs) e), digits-below cs (and-right (admits Digit c) (allOf Digit cs) e))

@@ -9,8 +9,15 @@ use Rattle.numbers.specs.declared.Refusal.the-variants.{Field15, Block20}
 use Rattle.pins.specs.declared.Pin.{Pin}
 use Rattle.pins.specs.declared.Reading.{Reading}
 use Rattle.pins.specs.declared.Row.{Row}
+use Rattle.pins.specs.declared.Count.{Count}
+use Rattle.pins.specs.declared.Count.the-variants as count
 use Rattle.pins.specs.declared.Reading.the-variants as reading
 use Rattle.pins.specs.declared.Row.the-variants as held
+
+-- a count, or the refusal
+abbrev pub countOf : Outcome ℕ → Count
+countOf (done n) = count.Of n
+countOf (refused q) = count.Bad q
 
 -- a PIN as a value: its length, and its digits as a row in a word
 abbrev pub pinOf : List ℕ → Pin

@@ -5,8 +5,8 @@ ghost use Prim.Native.Nat.{_^_, _<_, _≤_};
 ghost use lib.ListN.{length, drop};
 ghost use Rattle.nibbles.specs.Nibbles.{word, row, leading};
 ghost use Rattle.alphabet.specs.Alphabet.{admits, valueOf, characters};
-ghost use Rattle.pins.specs.Pins.{pinHanded, digitsHanded, accountOf, accountField, sized};
-ghost use Rattle.pins.specs.Answers.{readingOf, rowOf, refusalIn, refusedIn};
+ghost use Rattle.pins.specs.Pins.{pinLength, pinHanded, digitsHanded, accountOf, accountField, sized};
+ghost use Rattle.pins.specs.Answers.{countOf, readingOf, rowOf, refusalIn, refusedIn};
 use alphabet::Class;
 use numbers::Refusal;
 
@@ -14,6 +14,12 @@ use numbers::Refusal;
 pub struct Pin {
     pub length: usize,
     pub digits: u64,
+}
+
+// How many digits there are, or why that is no answer.
+pub enum Count {
+    Of(usize),
+    Bad(Refusal),
 }
 
 // A PIN that was read from a block or handed in, or why there is none.
@@ -112,22 +118,36 @@ pub fn field(digits: u64) -> u64
     digits * 65536
 }
 
-// A PIN handed in as digits: its length is judged before its digits.
+// The one place where a PIN's length is judged.
+pub fn pin_length(n: usize) -> Count
+    ensures { λ r. ⌜ r ≡ countOf (pinLength n) ⌝ }
+{
+    if n < 4 {
+        return Count::Bad(Refusal::Length24);
+    }
+    if 12 < n {
+        return Count::Bad(Refusal::Length24);
+    }
+    Count::Of(n)
+}
+
+// A PIN handed in as digits: "24 before 20".
 pub fn handed(digits: &[u8]) -> Reading
     ensures { λ r. ⌜ r ≡ readingOf (pinHanded (now (digits .entry))) ⌝ }
 {
-    let n = digits.len();
-    if n < 4 {
+    let measured = pin_length(digits.len());
+    let Count::Of(_) = measured else {
         return Reading::Bad(Refusal::Length24);
-    }
-    if 12 < n {
-        return Reading::Bad(Refusal::Length24);
-    }
-    packed(digits)
+    };
+    let packing = packed(digits);
+    let Reading::Got(pin) = packing else {
+        return Reading::Bad(Refusal::Block20);
+    };
+    Reading::Got(pin)
 }
 
-// The digits of a PIN that has its right length.
-fn packed(digits: &[u8]) -> Reading
+// The digits of a PIN or natural PIN handed in, at most 12.
+pub fn packed(digits: &[u8]) -> Reading
     requires { ⌜ length (now digits) ≤ 12 ⌝ }
     ensures { λ r. ⌜ r ≡ readingOf (digitsHanded (now (digits .entry))) ⌝ }
 {

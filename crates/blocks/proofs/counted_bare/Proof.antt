@@ -7,7 +7,7 @@ use mathlib.Core.Path.{_≡_, ap, sym, _∙_}
 use lib.Seq.{slice}
 use lib.ListN.{length}
 use borrow.Author.Needs.{needs}
-use Rattle.blocks.specs.declared.Count.the-variants.{Of}
+use Rattle.pins.specs.declared.Count.the-variants.{Of}
 use Rattle.blocks.proofs.Laws.{whole-row, before-part}
 use Rattle.nibbles.proofs.Laws.{run-whole, run-broken, leading-le, row-length}
 use Rattle.blocks.specs.Blocks.{beforeF}

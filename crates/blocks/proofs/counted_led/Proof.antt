@@ -3,7 +3,7 @@
 use mathlib.Core.Path.{ap}
 use borrow.Author.Tests.{eq-eqb, ne-eqb}
 use borrow.Author.Needs.{needs}
-use Rattle.blocks.specs.declared.Count.the-variants.{Of}
+use Rattle.pins.specs.declared.Count.the-variants.{Of}
 use Rattle.blocks.proofs.counted_led.Statement.{statement}
 use Rattle.blocks.proofs.counted_led.Tie as tie
 

@@ -1,6 +1,7 @@
 -- `blocks::judged_reading` meets its contract.
 -- Assumes nothing.
 use Prim.Native.Nat.{ℕ}
+use native.Mathlib.Omega.{arith}
 use mathlib.Core.List.{List}
 use mathlib.Core.Path.{ap, ap₂, sym, _∙_}
 use borrow.Author.Tests.{le-leb, lt-leb}
@@ -20,7 +21,7 @@ use Rattle.blocks.proofs.judged_reading.Tie as tie
 
 returns : tie.Need-returns
 unfolding readBlock
-returns c = rw (lt-leb 12 (c .before .before .before .args .room) (c .if1 .taken))
+returns c = rw (lt-leb 12 (c .before .before .before .args .room) (omega arith))
 
 block-width-requires : tie.Need-block-width-requires
 block-width-requires c κs = search needs
@@ -39,7 +40,7 @@ unfolding readBlock
 returns-2 c =
     let a = c .before .before .before .before .before .before .before .args in
     let e = c .before .before .sized-row .ensures ∙ ap (λ (k : ℕ). rowOf (sized k (a .block .now))) (c .before .before .before .block-width .ensures) in
-    rw (le-leb 12 (a .room) (c .before .before .before .before .if1 .left), sized-not 8 (a .block .now) _ e _ (c .enum-told .given .1))
+    rw (le-leb 12 (a .room) (omega arith), sized-not 8 (a .block .now) _ e _ (c .enum-told .given .1))
 
 account-requires : tie.Need-account-requires
 account-requires c κs = search needs
@@ -55,7 +56,7 @@ unfolding readBlock
 returns-3 c =
     let a = c .before .before .before .before .before .before .before .before .before .before .before .args in
     let s = sized-held 8 (a .block .now) (c .before .before .before .before .before .before .sized-row .result) (c .before .before .before .before .before .before .sized-row .ensures ∙ ap (λ (k : ℕ). rowOf (sized k (a .block .now))) (c .before .before .before .before .before .before .before .block-width .ensures)) _ (c .before .before .before .before .sized .given .1) in
-    rw (le-leb 12 (a .room) (c .before .before .before .before .before .before .before .before .if1 .left), s .0, account-not (a .account .now) _ (c .before .before .account .ensures) _ (c .enum-told2 .given .1))
+    rw (le-leb 12 (a .room) (omega arith), s .0, account-not (a .account .now) _ (c .before .before .account .ensures) _ (c .enum-told2 .given .1))
 
 by-requires : tie.Need-by-requires
 by-requires c κs = search needs
@@ -76,7 +77,7 @@ returns-4 c =
     let s = sized-held 8 (a .block .now) (c .before .before .before .before .before .before .before .before .before .before .before .sized-row .result) (c .before .before .before .before .before .before .before .before .before .before .before .sized-row .ensures ∙ ap (λ (k : ℕ). rowOf (sized k (a .block .now))) (c .before .before .before .before .before .before .before .before .before .before .before .before .block-width .ensures)) _ (c .before .before .before .before .before .before .before .before .before .sized .given .1) in
     let k = account-held (a .account .now) (c .before .before .before .before .before .before .before .account .result) (c .before .before .before .before .before .before .before .account .ensures) _ (c .before .before .before .before .before .kept .given .1) in
     let q = chosen-bad (formatOf (codeOf (a .format))) _ (sym (c .before .enum-told3 .given .1) ∙ c .before .before .before .by .ensures) in
-    rw (le-leb 12 (a .room) (c .before .before .before .before .before .before .before .before .before .before .before .before .before .if1 .left), s .0, k .1, q) (ap Bad (c .refusal .ensures ∙ ap refusalIn (c .before .enum-told3 .given .1)))
+    rw (le-leb 12 (a .room) (omega arith), s .0, k .1, q) (ap Bad (c .refusal .ensures ∙ ap refusalIn (c .before .enum-told3 .given .1)))
 
 field-requires : tie.Need-field-requires
 field-requires c κs =
@@ -96,7 +97,7 @@ returns-5 c =
     let k = account-held (a .account .now) (c .before .before .before .before .before .before .before .before .before .account .result) (c .before .before .before .before .before .before .before .before .before .account .ensures) _ (c .before .before .before .before .before .before .before .kept .given .1) in
     let f = chosen-of (formatOf (codeOf (a .format))) _ (sym (c .before .before .before .chosen .given .1) ∙ c .before .before .before .before .before .by .ensures) in
     let bytes = bytes-below (a .block .now) (c .before .before .before .before .before .before .before .before .before .before .before .before .before .before .before .before .before .shared-slice-known .given) in
-    rw (le-leb 12 (a .room) (c .before .before .before .before .before .before .before .before .before .before .before .before .before .before .before .if1 .left), s .0, k .1, f)
+    rw (le-leb 12 (a .room) (omega arith), s .0, k .1, f)
     (c .read .ensures ∙ ap₂ (λ (v n : List ℕ). readingOf (readRow (c .before .before .before .chosen .given .0 .0) v n))
     (account-field (a .account .now) (k .0) _ _ (k .1) (k .2) (c .before .field .ensures))
     (block-row (a .block .now) (nibs (a .block .now)) _ (s .0) bytes (s .1)))

@@ -5,7 +5,7 @@ use mathlib.Core.List.{List}
 use mathlib.Core.Path.{ap, ap₂, sym, _∙_}
 use borrow.Author.Tests.{le-leb, lt-leb}
 use borrow.Author.Needs.{needs}
-use Rattle.blocks.proofs.Laws.{proper, row-held-by}
+use Rattle.blocks.proofs.Laws.{proper, block-held, written-row, field-sixteen, bytes-sixteen}
 use Rattle.blocks.specs.Answers.{digitsOf}
 use Rattle.blocks.specs.Blocks.{writeRow, writeBlock}
 use Rattle.pins.proofs.Laws.{sized-held, sized-not, account-held, account-not, account-under, account-field, block-row, reading-got, reading-bad, handed-done, pin-row}
@@ -16,7 +16,7 @@ use Rattle.formats.proofs.Laws.{chosen-of, chosen-bad}
 use Rattle.formats.specs.Answers.{refusalIn}
 use Rattle.formats.specs.Formats.{codeOf, formatOf}
 use Rattle.nibbles.proofs.Laws.{bytes-below}
-use Rattle.nibbles.specs.Nibbles.{nibs}
+use Rattle.nibbles.specs.Nibbles.{nibs, word}
 use Rattle.blocks.proofs.judged_writing.Statement.{statement}
 use Rattle.blocks.proofs.judged_writing.Tie as tie
 
@@ -131,12 +131,12 @@ returns-6 c =
     let bytes = bytes-below (a .fill .now) (c .before .before .before .before .before .before .before .before .before .before .before .before .before .before .before .before .before .before .before .before .shared-slice-known3 .given) in
     let q = rw (p .0) at (p .1) in
     let written = c .write .ensures
-    ∙ ap₂ (λ (v n : List ℕ). writeRow (c .before .before .before .before .before .before .before .chosen .given .0 .0) v (digitsOf (c .before .before .before .handed2 .given .0 .0)) n)
+    ∙ ap₂ (λ (v n : List ℕ). word (writeRow (c .before .before .before .before .before .before .before .chosen .given .0 .0) v (digitsOf (c .before .before .before .handed2 .given .0 .0)) n))
     (account-field (a .account .now) (k .0) _ _ (k .1) (k .2) (c .before .field .ensures))
     (block-row (a .fill .now) (nibs (a .fill .now)) _ (s .0) bytes (s .1))
-    ∙ ap (λ (ds : List ℕ). writeRow (c .before .before .before .before .before .before .before .chosen .given .0 .0) (accountField (k .0)) ds (nibs (a .fill .now))) (ap digitsOf (h .2) ∙ pin-row (h .0) q) in
+    ∙ ap (λ (ds : List ℕ). word (writeRow (c .before .before .before .before .before .before .before .chosen .given .0 .0) (accountField (k .0)) ds (nibs (a .fill .now)))) (ap digitsOf (h .2) ∙ pin-row (h .0) q) in
     rw (le-leb 8 (a .room) (rw (c .before .before .before .before .before .before .before .before .before .before .before .before .before .before .before .before .before .before .before .block-width .ensures) at (c .before .before .before .before .before .before .before .before .before .before .before .before .before .before .before .before .before .before .if1 .left)), k .1, s .0, f, h .1)
-    (ap Held (row-held-by (c .write .result) _ (c .write .ok) written))
+    (ap Held (block-held (c .write .result) _ (written-row (c .before .before .before .before .before .before .before .chosen .given .0 .0) (accountField (k .0)) (h .0) (nibs (a .fill .now)) (field-sixteen (a .account .now) (k .0) (k .1)) q (bytes-sixteen (a .fill .now) (nibs (a .fill .now)) bytes (s .0))) written))
 
 pub judged-writing-spec : {M : Type 1} → statement M
 judged-writing-spec =

@@ -57,7 +57,7 @@ returns c =
     let tail = c .before .before .fill-from .ensures ∙ ap (λ (k : Fill). word (map (filled k) (drop from (row 16 (a .fill))))) (c .before .before .before .fill-written .ensures) in
     let clear = c .before .join .ensures ∙ ap₂ (λ (h t : ℕ). t * 16 ^ from + h) head tail in
     c .under-veil .ensures
-    ∙ ap (λ (ns : List ℕ). veil (veiled (a .f)) (row 16 (a .with)) ns) (ap (row 16) clear ∙ joined (a .f) (a .pin) (c .before .before .before .before .before .before .before .before .pre) (a .fill) from (ap (λ (k : ℕ). k + (c .before .before .before .before .before .before .before .before .args .pin) .length) (c .before .before .before .before .before .before .width .ensures ∙ ap leadWidth (c .before .before .before .before .before .before .before .lead .ensures))))
+    ∙ ap (λ (ns : List ℕ). word (veil (veiled (a .f)) (row 16 (a .with)) ns)) (ap (row 16) clear ∙ joined (a .f) (a .pin) (c .before .before .before .before .before .before .before .before .pre) (a .fill) from (ap (λ (k : ℕ). k + (c .before .before .before .before .before .before .before .before .args .pin) .length) (c .before .before .before .before .before .before .width .ensures ∙ ap leadWidth (c .before .before .before .before .before .before .before .lead .ensures))))
 
 pub write-spec : {M : Type 1} → statement M
 write-spec =

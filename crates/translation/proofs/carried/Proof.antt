@@ -5,7 +5,7 @@ use mathlib.Core.List.{List}
 use mathlib.Core.Path.{ap, ap₂, sym, _∙_}
 use borrow.Author.Needs.{needs}
 use Rattle.translation.specs.Answers.{refusalIn}
-use Rattle.blocks.proofs.Laws.{read-pinned, proper, row-held-by}
+use Rattle.blocks.proofs.Laws.{read-pinned, proper, block-held, written-row, row-sixteen, field-row-sixteen}
 use Rattle.blocks.specs.Answers.{digitsOf}
 use Rattle.blocks.specs.Blocks.{readRow, writeRow}
 use Rattle.pins.proofs.Laws.{field-row, reading-got, reading-bad, pin-row}
@@ -13,7 +13,7 @@ use Rattle.pins.specs.declared.Row.the-variants.{Held, Refused}
 use Rattle.pins.specs.Answers as answers
 use Rattle.pins.specs.Pins.{accountField}
 use Rattle.nibbles.proofs.Laws.{row-length}
-use Rattle.nibbles.specs.Nibbles.{row}
+use Rattle.nibbles.specs.Nibbles.{row, word}
 use Rattle.translation.proofs.carried.Statement.{statement}
 use Rattle.translation.proofs.carried.Tie as tie
 
@@ -73,8 +73,8 @@ returns-3 c =
     let p = read-pinned f (row 16 (c .before .before .before .before .before .field .result)) (row 16 (a .block)) (h .0) (row-length 16 (c .before .before .before .before .before .field .result)) (row-length 16 (a .block)) (h .1) in
     let t = c .before .before .before .before .before .before .before .pair .given .0 .1 .0 in
     let d = ap (λ (v : List ℕ). readRow f v (row 16 (a .block))) (sym field) ∙ h .1 in
-    let written = c .write .ensures ∙ ap₂ (λ (v ds : List ℕ). writeRow t v ds (row 16 (a .fill))) field (ap digitsOf (h .2) ∙ pin-row (h .0) p) in
-    rw (c .before .before .before .before .before .before .before .pair .given .1, d) (ap Held (row-held-by (c .write .result) (writeRow t (accountField (row 12 (a .account))) (h .0) (row 16 (a .fill))) (c .write .ok) written))
+    let written = c .write .ensures ∙ ap₂ (λ (v ds : List ℕ). word (writeRow t v ds (row 16 (a .fill)))) field (ap digitsOf (h .2) ∙ pin-row (h .0) p) in
+    rw (c .before .before .before .before .before .before .before .pair .given .1, d) (ap Held (block-held (c .write .result) (writeRow t (accountField (row 12 (a .account))) (h .0) (row 16 (a .fill))) (written-row t (accountField (row 12 (a .account))) (h .0) (row 16 (a .fill)) (field-row-sixteen (a .account)) p (row-sixteen (a .fill))) written))
 
 pub carried-spec : {M : Type 1} → statement M
 carried-spec =

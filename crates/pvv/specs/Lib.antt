@@ -1,0 +1,2 @@
+pub mod Pvv
+pub mod Answers

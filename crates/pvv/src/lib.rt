@@ -1,0 +1,232 @@
+// The ABA PVV: the input that is enciphered, the four digits of the enciphered input, and the verdict on digits that are presented.
+ghost use mathlib.Core.Path.{_≡_};
+ghost use mathlib.Core.List.{[], _∷_, _++_, map};
+ghost use Prim.Native.Nat.{_-_, _^_, _<_, _≤_};
+ghost use lib.ListN.{length, take};
+ghost use lib.Dec.{leb};
+ghost use Rattle.nibbles.specs.Nibbles.{word, row, within, same};
+ghost use Rattle.numbers.specs.Numbers.{andThen, unless};
+ghost use Rattle.numbers.specs.Promise.{Does, quietly};
+ghost use Rattle.formats.specs.Formats.{codeOf, formatOf};
+ghost use Rattle.pins.specs.Pins.{accountField};
+ghost use Rattle.pins.specs.Answers.{pinOf, readingOf, rowOf};
+ghost use Rattle.blocks.specs.Blocks.{readRow};
+ghost use Rattle.blocks.specs.Answers.{blockOf, digitsOf};
+ghost use Rattle.pvv.specs.Pvv.{those, pvvOf, inputRow, presented, pvvInput, pvvMade, pvvVerdict};
+ghost use Rattle.pvv.specs.Answers.{Taken};
+use alphabet::Class;
+use formats::Chosen;
+use numbers::Refusal;
+use numbers::Reply;
+use pins::Pin;
+use pins::Reading;
+use pins::Row;
+
+// One nibble more: it goes behind what was taken, less `less`, where it is from low to high and there are not four yet.
+fn step(taken: Pin, n: u64, low: u64, high: u64, less: u64) -> Pin
+    requires { ⌜ Taken taken × (n < 16) × (less ≤ low) ⌝ }
+    ensures { λ r. ⌜ r ≡ pinOf (take 4 (digitsOf taken ++ map (λ m. m - less) (those (within low high) (n ∷ [])))) ⌝ }
+{
+    if n < low {
+        return taken;
+    }
+    if high < n {
+        return taken;
+    }
+    if 4 <= taken.length {
+        return taken;
+    }
+    Pin {
+        length: taken.length + 1,
+        digits: nibbles::join(taken.digits, taken.length, n - less),
+    }
+}
+
+// The nibbles from low to high, less `less`, from the left, behind what was taken before, until there are four.
+fn scan(enciphered: u64, low: u64, high: u64, less: u64, before: Pin) -> Pin
+    requires { ⌜ Taken before × (less ≤ low) ⌝ }
+    ensures { λ r. ⌜ r ≡ pinOf (take 4 (digitsOf before ++ map (λ m. m - less) (those (within low high) (row 16 enciphered)))) ⌝ }
+{
+    let mut taken = before;
+    let mut i: usize = 0;
+    while i < 16 {
+        taken = step(taken, nibbles::nibble(enciphered, i), low, high, less);
+        i += 1;
+    }
+    taken
+}
+
+// The PVV's four digits, as a row.
+fn digits_of(enciphered: u64) -> u64
+    ensures { λ r. ⌜ r ≡ word (pvvOf (row 16 enciphered)) ⌝ }
+{
+    let none = Pin {
+        length: 0,
+        digits: 0,
+    };
+    let decimal = scan(enciphered, 0, 9, 0, none);
+    let whole = scan(enciphered, 10, 15, 10, decimal);
+    whole.digits
+}
+
+// "the key index (0 to 6, else 15)"
+fn key_index(index: u32) -> bool
+    ensures { λ r. ⌜ r ≡ leb index 6 ⌝ }
+{
+    index <= 6
+}
+
+// The first four digits of a PIN, as a row.
+fn first_four(pin: u64) -> u64
+    ensures { λ r. ⌜ r ≡ word (take 4 (row 16 pin)) ⌝ }
+{
+    nibbles::part(pin, 0, 4)
+}
+
+// The last eleven account digits, the key index and the first four digits of the PIN, as a row.
+fn input_row(account: u64, index: u32, pin: u64) -> u64
+    requires { ⌜ index ≤ 6 ⌝ }
+    ensures { λ r. ⌜ r ≡ word (inputRow (row 12 account) index (row 16 pin)) ⌝ }
+{
+    let behind = nibbles::join(index as u64, 1, first_four(pin));
+    nibbles::join(nibbles::part(account, 1, 11), 11, behind)
+}
+
+// Reads a block in the format of a code: 23, 69, the block.
+fn read_by(format: u32, account: u64, block: u64) -> Reading
+    requires { ⌜ account < 16 ^ 12 ⌝ }
+    ensures { λ r. ⌜ r ≡ readingOf (andThen (formatOf (codeOf format)) (λ f. readRow f (accountField (row 12 account)) (row 16 block))) ⌝ }
+{
+    let chosen = Chosen::by(format);
+    let Chosen::Of(f) = chosen else {
+        return Reading::Bad(chosen.refusal());
+    };
+    blocks::read(f, pins::field(account), block)
+}
+
+// Judges the call that makes the input: 901, 15 for block, account and index, 23, 69, the block.
+fn judged_input(format: u32, index: u32, block: &[u8], account: &[u8], room: usize) -> Row
+    ensures { λ r. ⌜ r ≡ blockOf (pvvInput format index (now (block .entry)) (now (account .entry)) room) ⌝ }
+{
+    if room < 8 {
+        return Row::Refused(Refusal::Room901);
+    }
+    let sized = pins::sized_row(block, formats::block_width(format));
+    let Row::Held(row) = sized else {
+        return Row::Refused(Refusal::Field15);
+    };
+    let kept = pins::account(account);
+    let Row::Held(digits) = kept else {
+        return Row::Refused(Refusal::Field15);
+    };
+    if !key_index(index) {
+        return Row::Refused(Refusal::Field15);
+    }
+    let reading = read_by(format, digits, row);
+    let Reading::Got(pin) = reading else {
+        return Row::Refused(reading.refusal());
+    };
+    Row::Held(input_row(digits, index, pin.digits))
+}
+
+// Makes the input that is enciphered under the key of the index.
+pub fn pvv_input(format: u32, index: u32, block: &[u8], account: &[u8], out: &mut [u8]) -> Reply
+    ensures { λ r. ⌜ Does (quietly (pvvInput format index (now (block .entry)) (now (account .entry)) (length (now (out .entry))))) (now (out .entry)) r (now (out .exit)) ⌝ }
+{
+    let judged = judged_input(format, index, block, account, out.len());
+    blocks::answer(judged, out)
+}
+
+// Makes the PVV of an enciphered input: four characters.
+pub fn pvv(enciphered: &[u8], out: &mut [u8]) -> Reply
+    ensures { λ r. ⌜ Does (quietly (pvvMade (now (enciphered .entry)) (length (now (out .entry))))) (now (out .entry)) r (now (out .exit)) ⌝ }
+{
+    if out.len() < 4 {
+        return Reply::refused(Refusal::Room901);
+    }
+    let sized = pins::sized_row(enciphered, 8);
+    let Row::Held(row) = sized else {
+        return Reply::refused(Refusal::Field15);
+    };
+    pins::put_characters(digits_of(row), 4, out);
+    Reply::done(4)
+}
+
+// A PVV that is presented: four digits, as a row.
+fn presented_row(pvv: &[u8]) -> Row
+    ensures { λ r. ⌜ r ≡ rowOf (presented (now (pvv .entry))) ⌝ }
+{
+    if pvv.len() != 4 {
+        return Row::Refused(Refusal::Field15);
+    }
+    if !alphabet::all_of(Class::Digit, pvv, 0, 4) {
+        return Row::Refused(Refusal::Field15);
+    }
+    Row::Held(pins::values(pvv))
+}
+
+// The verdict on four digits that are presented.
+fn compared(enciphered: u64, shown: u64) -> Row
+    requires { ⌜ shown < 16 ^ 4 ⌝ }
+    ensures { λ r. ⌜ r ≡ rowOf (unless Refusal.Unverified01 (same (pvvOf (row 16 enciphered)) (row 4 shown)) []) ⌝ }
+{
+    if digits_of(enciphered) != shown {
+        return Row::Refused(Refusal::Unverified01);
+    }
+    Row::Held(0)
+}
+
+// Judges the call that gives the verdict: 15 for block, account, index, enciphered input and PVV, 23, 69, the block, 01.
+fn judged_verdict(
+    format: u32,
+    index: u32,
+    block: &[u8],
+    account: &[u8],
+    enciphered: &[u8],
+    pvv: &[u8],
+) -> Row
+    ensures { λ r. ⌜ r ≡ rowOf (pvvVerdict format index (now (block .entry)) (now (account .entry)) (now (enciphered .entry)) (now (pvv .entry))) ⌝ }
+{
+    let sized = pins::sized_row(block, formats::block_width(format));
+    let Row::Held(row) = sized else {
+        return Row::Refused(Refusal::Field15);
+    };
+    let kept = pins::account(account);
+    let Row::Held(digits) = kept else {
+        return Row::Refused(Refusal::Field15);
+    };
+    if !key_index(index) {
+        return Row::Refused(Refusal::Field15);
+    }
+    let input = pins::sized_row(enciphered, 8);
+    let Row::Held(made) = input else {
+        return Row::Refused(Refusal::Field15);
+    };
+    let presented = presented_row(pvv);
+    let Row::Held(shown) = presented else {
+        return Row::Refused(Refusal::Field15);
+    };
+    let reading = read_by(format, digits, row);
+    let Reading::Got(_) = reading else {
+        return Row::Refused(reading.refusal());
+    };
+    compared(made, shown)
+}
+
+// The verdict on a PVV that is presented: 00 exactly for the digits that the enciphered input makes.
+pub fn pvv_verdict(
+    format: u32,
+    index: u32,
+    block: &[u8],
+    account: &[u8],
+    enciphered: &[u8],
+    pvv: &[u8],
+) -> Reply
+    ensures { λ r. ⌜ Does (quietly (pvvVerdict format index (now (block .entry)) (now (account .entry)) (now (enciphered .entry)) (now (pvv .entry)))) [] r [] ⌝ }
+{
+    let judged = judged_verdict(format, index, block, account, enciphered, pvv);
+    let Row::Held(_) = judged else {
+        return Reply::refused(judged.refusal());
+    };
+    Reply::done(0)
+}
