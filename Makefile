@@ -1,5 +1,5 @@
 # Short names for the steps of the gate. What each does stands in .ci/step.
-.PHONY: check prove archive host vectors compare header reference fmt clean
+.PHONY: check prove archive host vectors compare compare-offsets header reference fmt clean
 
 check:
 	.ci/run
@@ -13,7 +13,7 @@ archive header reference:
 host: archive
 	.ci/step $@
 
-vectors compare: host
+vectors compare compare-offsets: host
 	.ci/step $@
 
 fmt:

@@ -42,6 +42,72 @@ static qg_reply make_translate(const struct call_args *args)
 		RUN(args->runs[2]), RUN(args->out));
 }
 
+static qg_reply make_validation_block(const struct call_args *args)
+{
+	return qg_validation_block(RUN(args->runs[0]), RUN(args->runs[1]),
+		RUN(args->out));
+}
+
+static qg_reply make_natural_pin(const struct call_args *args)
+{
+	return qg_natural_pin((uint32_t)args->numbers[0], RUN(args->runs[0]),
+		RUN(args->runs[1]), RUN(args->out));
+}
+
+static qg_reply make_offset(const struct call_args *args)
+{
+	const uint64_t *rest = args->numbers + SETTINGS_NUMBERS;
+
+	return qg_offset(settings_of(args->numbers), (uint32_t)rest[0],
+		(uint32_t)rest[1], RUN(args->runs[0]), RUN(args->runs[1]),
+		RUN(args->runs[2]), RUN(args->runs[3]), RUN(args->out));
+}
+
+static qg_reply make_offset_of_digits(const struct call_args *args)
+{
+	const uint64_t *rest = args->numbers + SETTINGS_NUMBERS;
+
+	return qg_offset_of_digits(settings_of(args->numbers), (uint32_t)rest[0],
+		RUN(args->runs[0]), RUN(args->runs[1]), RUN(args->out));
+}
+
+/* Its output is signed bytes; a case holds them as the bytes they are. */
+static qg_reply make_differences(const struct call_args *args)
+{
+	const uint64_t *rest = args->numbers + SETTINGS_NUMBERS;
+
+	return qg_differences(settings_of(args->numbers), (uint32_t)rest[0],
+		RUN(args->runs[0]), RUN(args->runs[1]),
+		(int8_t *)args->out.at, args->out.len);
+}
+
+static qg_reply make_offset_verdict(const struct call_args *args)
+{
+	const uint64_t *rest = args->numbers + SETTINGS_NUMBERS;
+
+	return qg_offset_verdict(settings_of(args->numbers), (uint32_t)rest[0],
+		(uint32_t)rest[1], RUN(args->runs[0]), RUN(args->runs[1]),
+		RUN(args->runs[2]), RUN(args->runs[3]), RUN(args->runs[4]));
+}
+
+static qg_reply make_pvv_input(const struct call_args *args)
+{
+	return qg_pvv_input((uint32_t)args->numbers[0], (uint32_t)args->numbers[1],
+		RUN(args->runs[0]), RUN(args->runs[1]), RUN(args->out));
+}
+
+static qg_reply make_pvv(const struct call_args *args)
+{
+	return qg_pvv(RUN(args->runs[0]), RUN(args->out));
+}
+
+static qg_reply make_pvv_verdict(const struct call_args *args)
+{
+	return qg_pvv_verdict((uint32_t)args->numbers[0],
+		(uint32_t)args->numbers[1], RUN(args->runs[0]), RUN(args->runs[1]),
+		RUN(args->runs[2]), RUN(args->runs[3]));
+}
+
 #define SETTINGS { "header", 8 }, { "restricted", 1 }, { "variable", 1 }
 
 const struct call calls[] = {
@@ -51,6 +117,26 @@ const struct call calls[] = {
 		{ "pin", "account", "fill" }, true, make_write_block },
 	{ 3, "translate", { SETTINGS, { "from", 4 }, { "to", 4 } },
 		{ "block", "account", "fill" }, true, make_translate },
+	{ 4, "validation_block", { { NULL, 0 } },
+		{ "validation", "account" }, true, make_validation_block },
+	{ 5, "natural_pin", { { "length", 4 } },
+		{ "table", "enciphered" }, true, make_natural_pin },
+	{ 6, "offset", { SETTINGS, { "format", 4 }, { "check", 4 } },
+		{ "block", "account", "table", "enciphered" }, true, make_offset },
+	{ 7, "offset_of_digits", { SETTINGS, { "check", 4 } },
+		{ "pin", "natural" }, true, make_offset_of_digits },
+	{ 8, "differences", { SETTINGS, { "check", 4 } },
+		{ "pin", "natural" }, true, make_differences },
+	{ 9, "offset_verdict", { SETTINGS, { "format", 4 }, { "check", 4 } },
+		{ "block", "account", "table", "enciphered", "offset" }, false,
+		make_offset_verdict },
+	{ 10, "pvv_input", { { "format", 4 }, { "index", 4 } },
+		{ "block", "account" }, true, make_pvv_input },
+	{ 11, "pvv", { { NULL, 0 } },
+		{ "enciphered" }, true, make_pvv },
+	{ 12, "pvv_verdict", { { "format", 4 }, { "index", 4 } },
+		{ "block", "account", "enciphered", "pvv" }, false,
+		make_pvv_verdict },
 };
 
 const size_t calls_len = sizeof calls / sizeof calls[0];

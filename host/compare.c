@@ -1,12 +1,15 @@
 /*
- * compare FILE: replays a case file against the archive. Each case is tried
- * with its runs before a guard and again behind one; it passes where both
- * trials give the expected number, count and output and leave every other byte
- * alone. The last line is 'compare: N passed, M failed'; a fault of the file
- * counts as one more that failed.
+ * compare FILE [EXPECTED]: replays a case file against the archive. Each case
+ * is tried with its runs before a guard and again behind one; it passes where
+ * both trials give the expected number, count and output and leave every other
+ * byte alone. EXPECTED is the number of cases that the file must have. The last
+ * line is 'compare: N passed, M failed'; a fault of the file, another number of
+ * cases included, counts as one more that failed.
  */
+#include <errno.h>
 #include <inttypes.h>
 #include <stdio.h>
+#include <stdlib.h>
 
 #include "calls.h"
 #include "cases.h"
@@ -152,28 +155,59 @@ static int finish(const struct score *score)
 	return score->failed == 0 && score->passed > 0 ? 0 : 1;
 }
 
+/* Reads a number of cases: decimal digits alone, and not zero. */
+static bool read_count(const char *word, uint64_t *count)
+{
+	char *end;
+
+	if (word[0] < '0' || word[0] > '9')
+		return false;
+	errno = 0;
+	*count = strtoull(word, &end, 10);
+	return errno == 0 && *end == '\0' && *count > 0;
+}
+
+/* Replays a file. False at a fault of the file, which is scored as a failure. */
+static bool replay_file(const char *path, struct case_file *file,
+	struct score *score)
+{
+	const char *fault = cases_open(file, path) ? replay_all(file, score) : file->fault;
+
+	if (fault != NULL) {
+		/* a case that could not be read is not counted yet */
+		uint64_t place = file->count + (file->fault != NULL ? 1 : 0);
+
+		printf("%s, at case %" PRIu64 ": %s\n", path, place, fault);
+		score->failed++;
+	}
+	cases_close(file);
+	return fault == NULL;
+}
+
+/* A file of fewer cases, each of them right, would pass unseen. */
+static void hold_count(const char *path, uint64_t count, uint64_t expected,
+	struct score *score)
+{
+	printf("%s: %" PRIu64 " cases, %" PRIu64 " asked for\n", path, count, expected);
+	if (count != expected)
+		score->failed++;
+}
+
 int main(int argc, char **argv)
 {
 	static struct score score;
 	struct case_file file;
-	const char *fault;
+	uint64_t expected = 0;
 
-	if (argc != 2) {
-		fprintf(stderr, "usage: compare FILE\n");
+	if (argc < 2 || argc > 3 || (argc == 3 && !read_count(argv[2], &expected))) {
+		fprintf(stderr, "usage: compare FILE [EXPECTED]\n");
 		return 2;
 	}
 	if (!trial_open()) {
 		fprintf(stderr, "compare: no guarded memory could be mapped\n");
 		return 2;
 	}
-	fault = cases_open(&file, argv[1]) ? replay_all(&file, &score) : file.fault;
-	if (fault != NULL) {
-		/* a case that could not be read is not counted yet */
-		uint64_t place = file.count + (file.fault != NULL ? 1 : 0);
-
-		printf("%s, at case %" PRIu64 ": %s\n", argv[1], place, fault);
-		score.failed++;
-	}
-	cases_close(&file);
+	if (replay_file(argv[1], &file, &score) && argc == 3)
+		hold_count(argv[1], file.count, expected, &score);
 	return finish(&score);
 }

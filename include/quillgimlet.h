@@ -20,11 +20,14 @@
  *
  * What the bytes of a run are:
  *
- *   - Blocks and fill are plain bytes; nibbles count from the left, the high
- *     half of a byte before its low half.
+ *   - Blocks, enciphered blocks and fill are plain bytes; nibbles count from
+ *     the left, the high half of a byte before its low half.
  *   - An account is characters, '0' to '9' (30 to 39 hex), as in a command:
  *     the 12 rightmost digits of the card number without its check digit.
- *   - A PIN is digit values, 0 to 9, one to a byte, and not characters.
+ *   - A decimalisation table, validation data, an offset and a PVV are
+ *     characters too, as in a command. Hex letters are capitals, 'A' to 'F'.
+ *   - A PIN is digit values, 0 to 9, one to a byte, and not characters; so is
+ *     a natural PIN.
  *
  * Parameters stand in one order everywhere: settings, numbers, input runs,
  * output.
@@ -54,17 +57,29 @@
  * of the first fault. The order is listed with the call: of several faults the
  * one listed first decides. The numbers that occur below:
  *
- *    00   done
- *    15   a run of a wrong length or alphabet
- *    20   control, digit or fill wrong in a block; a PIN digit over 9
+ *    00   done; of a verdict: the PIN verifies
+ *    01   of a verdict: the PIN does not verify
+ *    15   a block, an enciphered block or fill that is not 8 bytes; an account
+ *         that is not 12 digit characters; a table that is not 16 characters;
+ *         validation data, an offset or a PVV malformed; a check length
+ *         outside 4 to 12; a key index over 6
+ *    20   control, digit or fill wrong in a block; a digit over 9 in a PIN or
+ *         a natural PIN handed in
  *    23   format code not among 01 03 05 34 35 41 42 47 48
- *    24   PIN length outside 4 to 12
+ *    24   PIN length outside 4 to 12, that of a PIN handed in too; a natural
+ *         PIN handed in with another length than its PIN
+ *    25   a decimalisation table holds a character that is not a digit
  *    69   format known but not built, or not allowed here
+ *    81   check length longer than the PIN, or an offset with another number
+ *         of digits than it must cover
  *   901   lent output too short
  *
  * Below the command level any number but 00 means that nothing was written,
  * and `written` is 0. After 00 the call has written the first `written` bytes
- * of `out`, and the bytes of `out` behind them keep the values they had.
+ * of `out`, and the bytes of `out` behind them keep the values they had. A
+ * verdict is lent no output and writes nothing, for 00 neither.
+ *
+ * Every call that this header declares is below the command level.
  */
 
 #ifndef QUILLGIMLET_H
@@ -82,8 +97,10 @@ extern "C" {
  *
  *   header       length of a command's header in bytes, 0 to 16; usual 4.
  *                No call below the command level reads it.
- *   restricted   restricted formats; usual No.
- *   variable     variable length offset; usual No.
+ *   restricted   restricted formats; usual No. Below the command level only
+ *                qg_translate reads it.
+ *   variable     variable length offset; usual No. Below the command level
+ *                only the four calls that take a check length read it.
  *
  * A flag is a uint8_t: 0 is No and any other value is Yes.
  */
@@ -97,8 +114,9 @@ typedef struct {
  * What a call answers.
  *
  *   number    one of the numbers above.
- *   written   how many bytes or digits the call wrote at the start of the
- *             lent output; 0 for every number but 00.
+ *   written   how many bytes, digits, characters or differences the call
+ *             wrote at the start of the lent output. Below the command level
+ *             it is 0 for every number but 00, and for every verdict.
  */
 typedef struct {
 	uint32_t number;
@@ -228,6 +246,315 @@ qg_reply qg_translate(qg_settings settings, uint32_t from, uint32_t to,
 	const uint8_t *account, size_t account_len,
 	const uint8_t *fill, size_t fill_len,
 	uint8_t *out, size_t out_len);
+
+
+/* ======================================================================
+ * IBM 3624
+ *
+ * The key box enciphers a validation block. A decimalisation table turns the
+ * nibbles of what comes back, from the left, into digits: the natural PIN is
+ * the first n of them, where n is the length of the PIN. An offset is what
+ * lies between the two, digit by digit: PIN digit less natural digit, modulo
+ * ten.
+ *
+ * An offset covers the last digits of the PIN, as many as the check length
+ * says. Where `variable` is Yes it covers all of them: the check length must
+ * be 4 to 12 all the same and decides nothing else.
+ *
+ * An offset stands in 12 characters: its digits on the left, then 'F'.
+ *
+ * For PIN 34567, the table 0123456789012345 and an enciphered block that
+ * begins 9F 3C 0A 71, the natural PIN is 95320:
+ *
+ *    check 4   9247FFFFFFFF      differences     -1  2  4  7
+ *    check 5   49247FFFFFFF      differences -6  -1  2  4  7
+ *    check 6   refused, 81
+ *
+ * Where `variable` is Yes each of the three gives what check 5 gives.
+ */
+
+/*
+ * Makes the block that the key box is to encipher.
+ *
+ *   validation, validation_len   the validation data, in one of two forms:
+ *                                12 characters, eleven hex and exactly one
+ *                                'N'; or 'P' and 16 hex, 17 characters
+ *   account, account_len         the account: 12 digit characters
+ *   out, out_len                 where the block goes: 8 bytes or more
+ *
+ * 'N' is replaced by the last five account digits, which makes sixteen
+ * nibbles. The form with 'P' gives its sixteen as they stand; the account is
+ * judged there too and not used.
+ *
+ * Numbers, in the order of judging:
+ *
+ *   901   out_len is under 8
+ *    15   the account is not 12 digit characters, or the validation data have
+ *         neither form
+ *    00   the block is in out
+ *
+ * On 00 it writes the 8 bytes of the block, and `written` is 8. All later
+ * bytes of out keep their values.
+ */
+qg_reply qg_validation_block(const uint8_t *validation, size_t validation_len,
+	const uint8_t *account, size_t account_len,
+	uint8_t *out, size_t out_len);
+
+/*
+ * Makes the natural PIN.
+ *
+ *   length                       how many digits are wanted: 4 to 12
+ *   table, table_len             the decimalisation table: 16 digit characters
+ *   enciphered, enciphered_len   the enciphered validation block: 8 bytes
+ *   out, out_len                 where the digits go: 12 bytes or more,
+ *                                whatever `length` is
+ *
+ * Nibble v of the enciphered block becomes the digit at place v of the table,
+ * places counted from 0.
+ *
+ * Numbers, in the order of judging:
+ *
+ *   901   out_len is under 12
+ *    15   table_len is not 16, or enciphered_len is not 8
+ *    25   a character of the table is not a digit
+ *    24   `length` is not 4 to 12
+ *    00   the natural PIN is in out
+ *
+ * On 00 it writes the digits as values 0 to 9, one to a byte, and `written` is
+ * `length`. All later bytes of out keep their values, those up to the twelfth
+ * too.
+ */
+qg_reply qg_natural_pin(uint32_t length,
+	const uint8_t *table, size_t table_len,
+	const uint8_t *enciphered, size_t enciphered_len,
+	uint8_t *out, size_t out_len);
+
+/*
+ * Makes the offset of the PIN in a clear block.
+ *
+ *   settings                     only `variable` is read
+ *   format                       the block's format
+ *   check                        the check length: 4 to 12
+ *   block, block_len             the block: 8 bytes
+ *   account, account_len         the account: 12 digit characters
+ *   table, table_len             the decimalisation table: 16 digit characters
+ *   enciphered, enciphered_len   the enciphered validation block: 8 bytes
+ *   out, out_len                 where the offset goes: 12 bytes or more
+ *
+ * Numbers, in the order of judging:
+ *
+ *   901   out_len is under 12
+ *    15   `check` is not 4 to 12, block_len is not 8, the account is not 12
+ *         digit characters, table_len is not 16, or enciphered_len is not 8
+ *    23   the format's code is unknown
+ *    69   the format is 41, 42 or 48
+ *    25   a character of the table is not a digit
+ *    20, 24, 20   the block, judged as qg_read_block does
+ *    81   `check` is longer than the PIN; never where `variable` is Yes
+ *    00   the offset is in out
+ *
+ * On 00 it writes 12 characters, the digits and then 'F', and `written` is 12.
+ * All later bytes of out keep their values.
+ */
+qg_reply qg_offset(qg_settings settings, uint32_t format, uint32_t check,
+	const uint8_t *block, size_t block_len,
+	const uint8_t *account, size_t account_len,
+	const uint8_t *table, size_t table_len,
+	const uint8_t *enciphered, size_t enciphered_len,
+	uint8_t *out, size_t out_len);
+
+/*
+ * Makes the offset of a PIN against a natural PIN, both handed in as digits.
+ *
+ *   settings               only `variable` is read
+ *   check                  the check length: 4 to 12
+ *   pin, pin_len           the PIN: 4 to 12 digit values, 0 to 9
+ *   natural, natural_len   the natural PIN: as many digit values
+ *   out, out_len           where the offset goes: 12 bytes or more
+ *
+ * Numbers, in the order of judging. The PIN's length comes before its digits,
+ * the natural PIN's behind them:
+ *
+ *   901   out_len is under 12
+ *    15   `check` is not 4 to 12
+ *    24   pin_len is not 4 to 12
+ *    20   a digit of the PIN is over 9
+ *    20   a digit of the natural PIN is over 9, in a run of any length
+ *    24   natural_len is not pin_len
+ *    81   `check` is longer than the PIN; never where `variable` is Yes
+ *    00   the offset is in out
+ *
+ * On 00 it writes 12 characters, the digits and then 'F', and `written` is 12.
+ * All later bytes of out keep their values.
+ */
+qg_reply qg_offset_of_digits(qg_settings settings, uint32_t check,
+	const uint8_t *pin, size_t pin_len,
+	const uint8_t *natural, size_t natural_len,
+	uint8_t *out, size_t out_len);
+
+/*
+ * Gives the differences behind an offset, not reduced modulo ten: PIN digit
+ * less natural digit, -9 to 9.
+ *
+ *   settings               only `variable` is read
+ *   check                  the check length: 4 to 12
+ *   pin, pin_len           the PIN: 4 to 12 digit values, 0 to 9
+ *   natural, natural_len   the natural PIN: as many digit values
+ *   out, out_len           where the differences go: 12 signed bytes or more,
+ *                          however many are covered
+ *
+ * Numbers, in the order of judging, those of qg_offset_of_digits:
+ *
+ *   901   out_len is under 12
+ *    15   `check` is not 4 to 12
+ *    24   pin_len is not 4 to 12
+ *    20   a digit of the PIN is over 9
+ *    20   a digit of the natural PIN is over 9, in a run of any length
+ *    24   natural_len is not pin_len
+ *    81   `check` is longer than the PIN; never where `variable` is Yes
+ *    00   the differences are in out
+ *
+ * On 00 it writes the covered differences from the left, one to a byte, and
+ * `written` is how many: `check`, or pin_len where `variable` is Yes. All
+ * later bytes of out keep their values, those up to the twelfth too.
+ */
+qg_reply qg_differences(qg_settings settings, uint32_t check,
+	const uint8_t *pin, size_t pin_len,
+	const uint8_t *natural, size_t natural_len,
+	int8_t *out, size_t out_len);
+
+/*
+ * Judges whether the PIN in a clear block verifies against an offset.
+ *
+ *   settings                     only `variable` is read
+ *   format                       the block's format
+ *   check                        the check length: 4 to 12
+ *   block, block_len             the block: 8 bytes
+ *   account, account_len         the account: 12 digit characters
+ *   table, table_len             the decimalisation table: 16 digit characters
+ *   enciphered, enciphered_len   the enciphered validation block: 8 bytes
+ *   offset, offset_len           the offset presented: 12 characters, 4 to 12
+ *                                digits and then only 'F'
+ *
+ * Numbers, in the order of judging:
+ *
+ *    15   `check` is not 4 to 12, block_len is not 8, the account is not 12
+ *         digit characters, table_len is not 16, enciphered_len is not 8, or
+ *         the offset has another form
+ *    23   the format's code is unknown
+ *    69   the format is 41, 42 or 48
+ *    25   a character of the table is not a digit
+ *    20, 24, 20   the block, judged as qg_read_block does
+ *    81   `check` is longer than the PIN, or the offset has not exactly
+ *         `check` digits; where `variable` is Yes: the offset has not exactly
+ *         as many digits as the PIN
+ *    01   the offset is another than qg_offset makes of the same
+ *    00   it is the one
+ *
+ * It writes nothing, and `written` is 0 for 00 too.
+ */
+qg_reply qg_offset_verdict(qg_settings settings,
+	uint32_t format, uint32_t check,
+	const uint8_t *block, size_t block_len,
+	const uint8_t *account, size_t account_len,
+	const uint8_t *table, size_t table_len,
+	const uint8_t *enciphered, size_t enciphered_len,
+	const uint8_t *offset, size_t offset_len);
+
+
+/* ======================================================================
+ * ABA PVV
+ *
+ * The key box enciphers an input of sixteen nibbles: the last 11 account
+ * digits, the key index and the first four PIN digits. The PVV is the first
+ * four nibbles 0 to 9 of what comes back, from the left; where there are
+ * fewer, the nibbles A to F, again from the left and less ten, complete it.
+ *
+ *    0A 5F C3 E1 7B 2D 94 88   0531
+ *    AB CD EF AB CD EF 1A B2   1201
+ *    FF FF FF FF FF FF FF FF   5555
+ */
+
+/*
+ * Makes the input that the key box is to encipher, from a clear block.
+ *
+ *   format                the block's format
+ *   index                 the key index: 0 to 6
+ *   block, block_len      the block: 8 bytes
+ *   account, account_len  the account: 12 digit characters
+ *   out, out_len          where the input goes: 8 bytes or more
+ *
+ * Numbers, in the order of judging:
+ *
+ *   901   out_len is under 8
+ *    15   block_len is not 8, the account is not 12 digit characters, or
+ *         `index` is over 6
+ *    23   the format's code is unknown
+ *    69   the format is 41, 42 or 48
+ *    20, 24, 20   the block, judged as qg_read_block does
+ *    00   the input is in out
+ *
+ * On 00 it writes the 8 bytes of the input, and `written` is 8. All later
+ * bytes of out keep their values. For account 400000123456, index 1 and PIN
+ * 34567 the input is 00 00 01 23 45 61 34 56.
+ */
+qg_reply qg_pvv_input(uint32_t format, uint32_t index,
+	const uint8_t *block, size_t block_len,
+	const uint8_t *account, size_t account_len,
+	uint8_t *out, size_t out_len);
+
+/*
+ * Makes the PVV of an enciphered input.
+ *
+ *   enciphered, enciphered_len   the enciphered input: 8 bytes
+ *   out, out_len                 where the PVV goes: 4 bytes or more
+ *
+ * Numbers, in the order of judging:
+ *
+ *   901   out_len is under 4
+ *    15   enciphered_len is not 8
+ *    00   the PVV is in out
+ *
+ * On 00 it writes four digit characters, and `written` is 4. All later bytes
+ * of out keep their values.
+ */
+qg_reply qg_pvv(const uint8_t *enciphered, size_t enciphered_len,
+	uint8_t *out, size_t out_len);
+
+/*
+ * Judges whether a PIN verifies against a PVV.
+ *
+ *   format                       the block's format
+ *   index                        the key index: 0 to 6
+ *   block, block_len             the block that the input was made from: 8
+ *                                bytes
+ *   account, account_len         the account: 12 digit characters
+ *   enciphered, enciphered_len   the enciphered input: 8 bytes
+ *   pvv, pvv_len                 the PVV presented: 4 digit characters
+ *
+ * Index, block and account are judged, and the PVV presented is compared with
+ * the one that the enciphered input makes, and with nothing else. That the key
+ * box was handed the input of this index, block and account is the caller's
+ * to see to.
+ *
+ * Numbers, in the order of judging:
+ *
+ *    15   block_len is not 8, the account is not 12 digit characters, `index`
+ *         is over 6, enciphered_len is not 8, or the PVV is not 4 digit
+ *         characters
+ *    23   the format's code is unknown
+ *    69   the format is 41, 42 or 48
+ *    20, 24, 20   the block, judged as qg_read_block does
+ *    01   the PVV is another than qg_pvv makes of the enciphered input
+ *    00   it is the one
+ *
+ * It writes nothing, and `written` is 0 for 00 too.
+ */
+qg_reply qg_pvv_verdict(uint32_t format, uint32_t index,
+	const uint8_t *block, size_t block_len,
+	const uint8_t *account, size_t account_len,
+	const uint8_t *enciphered, size_t enciphered_len,
+	const uint8_t *pvv, size_t pvv_len);
 
 #ifdef __cplusplus
 }

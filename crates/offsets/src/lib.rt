@@ -7,6 +7,7 @@ ghost use Rattle.nibbles.specs.Nibbles.{every};
 ghost use Rattle.numbers.specs.Promise.{Does, quietly};
 ghost use Rattle.pins.specs.Pins.{digit};
 ghost use Rattle.pins.specs.Answers.{readingOf, rowOf};
+ghost use Rattle.blocks.specs.Answers.{digitsOf};
 ghost use Rattle.offsets.specs.Offsets.{given, pinAndNatural, digitsGiven, offsetFor, offsetJudged, digitsJudged, offsetMade, offsetOfDigits, differencesOf, verdictOn, offsetVerdict};
 ghost use Rattle.offsets.specs.Answers.{givenOf, comparisonOf, refusalIn, rowsIn, pairIn, Fit, textOf, Roomy};
 use formats::Chosen;
@@ -274,4 +275,105 @@ pub fn offset_of_digits(
 {
     let judged = judged_digits(settings.variable, check, pin, natural, out.len());
     answer(judged, out)
+}
+
+// Judges the call that gives the differences: 901, 15, the PIN and the natural PIN, 81.
+pub fn differences(
+    settings: Settings,
+    check: u32,
+    pin: &[u8],
+    natural: &[u8],
+    out: &mut [i8],
+) -> Reply
+    ensures { λ r. ⌜ Does (quietly (differencesOf (settings .variable) check (now (pin .entry)) (now (natural .entry)) (length (now (out .entry))))) (now (out .entry)) r (now (out .exit)) ⌝ }
+{
+    if out.len() < 12 {
+        return Reply::refused(Refusal::Room901);
+    }
+    let comparison = handed(check, pin, natural);
+    let Comparison::Of(p) = comparison else {
+        return Reply::refused(comparison.refusal());
+    };
+    let n = p.length;
+    let covering = ibm3624::covering(settings.variable, check as usize, n);
+    let Count::Of(m) = covering else {
+        return Reply::refused(Refusal::Check81);
+    };
+    ibm3624::put_differences(m, n, p.pin, p.natural, out);
+    Reply::done(m as u32)
+}
+
+// 81 for the offset's length, then the verdict; 00 is a row of nothing.
+fn verdict_on(variable: bool, check: u32, presented: Pin, p: Compared) -> Row
+    requires { ⌜ Fit p × (presented .digits < 16 ^ presented .length) ⌝ }
+    ensures { λ r. ⌜ r ≡ rowOf (verdictOn variable check (digitsOf presented) (pairIn p)) ⌝ }
+{
+    let made = offset_for(variable, check, p);
+    let Reading::Got(offset) = made else {
+        return Row::Refused(Refusal::Check81);
+    };
+    if presented.length != offset.length {
+        return Row::Refused(Refusal::Check81);
+    }
+    if presented.digits != offset.digits {
+        return Row::Refused(Refusal::Unverified01);
+    }
+    Row::Held(0)
+}
+
+// Judges the verdict: 15, the presented offset among them, 23, 69, 25, the block, 81.
+fn judged_verdict(
+    variable: bool,
+    format: u32,
+    check: u32,
+    block: &[u8],
+    account: &[u8],
+    table: &[u8],
+    enciphered: &[u8],
+    offset: &[u8],
+) -> Row
+    ensures { λ r. ⌜ r ≡ rowOf (offsetVerdict variable format check (now (block .entry)) (now (account .entry)) (now (table .entry)) (now (enciphered .entry)) (now (offset .entry))) ⌝ }
+{
+    let fields = taken(format, check, block, account, table, enciphered);
+    let Given::Of(rows) = fields else {
+        return Row::Refused(Refusal::Field15);
+    };
+    let shown = ibm3624::presented(offset);
+    let Reading::Got(presented) = shown else {
+        return Row::Refused(Refusal::Field15);
+    };
+    let comparison = paired(format, table, rows);
+    let Comparison::Of(p) = comparison else {
+        return Row::Refused(comparison.refusal());
+    };
+    verdict_on(variable, check, presented, p)
+}
+
+// Gives the verdict on an offset that is presented.
+pub fn offset_verdict(
+    settings: Settings,
+    format: u32,
+    check: u32,
+    block: &[u8],
+    account: &[u8],
+    table: &[u8],
+    enciphered: &[u8],
+    offset: &[u8],
+) -> Reply
+    ensures { λ r. ⌜ Does (quietly (offsetVerdict (settings .variable) format check (now (block .entry)) (now (account .entry)) (now (table .entry)) (now (enciphered .entry)) (now (offset .entry)))) [] r [] ⌝ }
+{
+    let judged = judged_verdict(
+        settings.variable,
+        format,
+        check,
+        block,
+        account,
+        table,
+        enciphered,
+        offset,
+    );
+    let Row::Held(_) = judged else {
+        return Reply::refused(judged.refusal());
+    };
+    Reply::done(0)
 }

@@ -3,7 +3,12 @@ ghost use mathlib.Core.Path.{_≡_};
 ghost use lib.ListN.{length};
 ghost use Rattle.numbers.specs.Promise.{Does, quietly};
 ghost use Rattle.blocks.specs.Blocks.{readBlock, writeBlock};
+ghost use mathlib.Core.List.{[]};
 ghost use Rattle.translation.specs.Translation.{translateBlock};
+ghost use Rattle.validation.specs.Validation.{validationBlock};
+ghost use Rattle.ibm3624.specs.Ibm3624.{naturalPin};
+ghost use Rattle.offsets.specs.Offsets.{offsetMade, offsetOfDigits, differencesOf, offsetVerdict};
+ghost use Rattle.pvv.specs.Pvv.{pvvInput, pvvMade, pvvVerdict};
 ghost use Rattle.quillgimlet.specs.Face.{yes?, settingsOf};
 use numbers::Reply;
 use settings::Settings;
@@ -59,4 +64,133 @@ pub extern "C" fn qg_translate(
     ensures { λ r. ⌜ Does (quietly (translateBlock (yes? (settings .restricted)) from to (now (block .entry)) (now (account .entry)) (now (fill .entry)) (length (now (out .entry))))) (now (out .entry)) r (now (out .exit)) ⌝ }
 {
     translation::translate(inner(settings), from, to, block, account, fill, out)
+}
+
+#[no_mangle]
+pub extern "C" fn qg_validation_block(validation: &[u8], account: &[u8], out: &mut [u8]) -> Reply
+    ensures { λ r. ⌜ Does (quietly (validationBlock (now (validation .entry)) (now (account .entry)) (lib.ListN.length (now (out .entry))))) (now (out .entry)) r (now (out .exit)) ⌝ }
+{
+    validation::validation_block(validation, account, out)
+}
+
+#[no_mangle]
+pub extern "C" fn qg_natural_pin(
+    length: u32,
+    table: &[u8],
+    enciphered: &[u8],
+    out: &mut [u8],
+) -> Reply
+    ensures { λ r. ⌜ Does (quietly (naturalPin length (now (table .entry)) (now (enciphered .entry)) (lib.ListN.length (now (out .entry))))) (now (out .entry)) r (now (out .exit)) ⌝ }
+{
+    ibm3624::natural_pin(length, table, enciphered, out)
+}
+
+#[no_mangle]
+pub extern "C" fn qg_offset(
+    settings: FaceSettings,
+    format: u32,
+    check: u32,
+    block: &[u8],
+    account: &[u8],
+    table: &[u8],
+    enciphered: &[u8],
+    out: &mut [u8],
+) -> Reply
+    ensures { λ r. ⌜ Does (quietly (offsetMade (yes? (settings .variable)) format check (now (block .entry)) (now (account .entry)) (now (table .entry)) (now (enciphered .entry)) (lib.ListN.length (now (out .entry))))) (now (out .entry)) r (now (out .exit)) ⌝ }
+{
+    offsets::offset(
+        inner(settings),
+        format,
+        check,
+        block,
+        account,
+        table,
+        enciphered,
+        out,
+    )
+}
+
+#[no_mangle]
+pub extern "C" fn qg_offset_of_digits(
+    settings: FaceSettings,
+    check: u32,
+    pin: &[u8],
+    natural: &[u8],
+    out: &mut [u8],
+) -> Reply
+    ensures { λ r. ⌜ Does (quietly (offsetOfDigits (yes? (settings .variable)) check (now (pin .entry)) (now (natural .entry)) (lib.ListN.length (now (out .entry))))) (now (out .entry)) r (now (out .exit)) ⌝ }
+{
+    offsets::offset_of_digits(inner(settings), check, pin, natural, out)
+}
+
+#[no_mangle]
+pub extern "C" fn qg_differences(
+    settings: FaceSettings,
+    check: u32,
+    pin: &[u8],
+    natural: &[u8],
+    out: &mut [i8],
+) -> Reply
+    ensures { λ r. ⌜ Does (quietly (differencesOf (yes? (settings .variable)) check (now (pin .entry)) (now (natural .entry)) (lib.ListN.length (now (out .entry))))) (now (out .entry)) r (now (out .exit)) ⌝ }
+{
+    offsets::differences(inner(settings), check, pin, natural, out)
+}
+
+#[no_mangle]
+pub extern "C" fn qg_offset_verdict(
+    settings: FaceSettings,
+    format: u32,
+    check: u32,
+    block: &[u8],
+    account: &[u8],
+    table: &[u8],
+    enciphered: &[u8],
+    offset: &[u8],
+) -> Reply
+    ensures { λ r. ⌜ Does (quietly (offsetVerdict (yes? (settings .variable)) format check (now (block .entry)) (now (account .entry)) (now (table .entry)) (now (enciphered .entry)) (now (offset .entry)))) [] r [] ⌝ }
+{
+    offsets::offset_verdict(
+        inner(settings),
+        format,
+        check,
+        block,
+        account,
+        table,
+        enciphered,
+        offset,
+    )
+}
+
+#[no_mangle]
+pub extern "C" fn qg_pvv_input(
+    format: u32,
+    index: u32,
+    block: &[u8],
+    account: &[u8],
+    out: &mut [u8],
+) -> Reply
+    ensures { λ r. ⌜ Does (quietly (pvvInput format index (now (block .entry)) (now (account .entry)) (lib.ListN.length (now (out .entry))))) (now (out .entry)) r (now (out .exit)) ⌝ }
+{
+    pvv::pvv_input(format, index, block, account, out)
+}
+
+#[no_mangle]
+pub extern "C" fn qg_pvv(enciphered: &[u8], out: &mut [u8]) -> Reply
+    ensures { λ r. ⌜ Does (quietly (pvvMade (now (enciphered .entry)) (lib.ListN.length (now (out .entry))))) (now (out .entry)) r (now (out .exit)) ⌝ }
+{
+    pvv::pvv(enciphered, out)
+}
+
+#[no_mangle]
+pub extern "C" fn qg_pvv_verdict(
+    format: u32,
+    index: u32,
+    block: &[u8],
+    account: &[u8],
+    enciphered: &[u8],
+    pvv: &[u8],
+) -> Reply
+    ensures { λ r. ⌜ Does (quietly (pvvVerdict format index (now (block .entry)) (now (account .entry)) (now (enciphered .entry)) (now (pvv .entry)))) [] r [] ⌝ }
+{
+    pvv::pvv_verdict(format, index, block, account, enciphered, pvv)
 }

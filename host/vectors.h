@@ -1,0 +1,65 @@
+/*
+ * What the parts of the program `vectors` share: how an example of the papers
+ * is turned into what a call takes, and how a call's answer is held to it.
+ */
+#ifndef HOST_VECTORS_H
+#define HOST_VECTORS_H
+
+#include "quillgimlet.h"
+
+#define BLOCK 8
+#define ACCOUNT 12
+#define PIN_MOST 12
+#define TABLE 16
+#define OFFSET 12
+#define PVV 4
+
+/* An output of this many bytes is lent, longer than any call needs, so that
+ * the bytes that must keep their values are seen. */
+#define LENT 16
+#define UNTOUCHED 0xA5
+
+/* Room for the words that say what was done. */
+#define DEED 64
+
+extern const qg_settings usual;
+
+/* The account of the paper's figures, and their PIN 34567 in a block: P2's. */
+extern const char paper_account[];
+extern const char paper_block[];
+#define PAPER_FORMAT 1
+
+/* A block from its sixteen hex characters. */
+void block_of(const char *hex, uint8_t *block);
+
+/* A PIN's digit values from its digit characters. */
+size_t digits_of(const char *digits, uint8_t *values);
+
+/* Characters as a call takes them. */
+const uint8_t *characters(const char *text);
+
+/* A digit character that is not this one. */
+uint8_t another_digit(uint8_t digit);
+
+/* Makes an output that no call has written to. */
+void untouched(uint8_t *out);
+
+/* Holds a reply and the lent output to what they must be: the number, the
+ * bytes written, and every byte behind them untouched. */
+void hold(const char *deed, const char *source, qg_reply reply,
+	const uint8_t *out, uint32_t number, const uint8_t *bytes, size_t len);
+
+/* Holds a refusal: the number, and an output left as it was. */
+void hold_refused(const char *deed, const char *source, qg_reply reply,
+	const uint8_t *out, uint32_t number);
+
+/* Holds a verdict, which is lent no output. */
+void hold_verdict(const char *deed, const char *source, qg_reply reply,
+	uint32_t number);
+
+/* The parts of the program. */
+void block_vectors(void);
+void offset_vectors(void);
+void pvv_vectors(void);
+
+#endif
