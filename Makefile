@@ -1,5 +1,5 @@
 # Short names for the steps of the gate. What each does stands in .ci/step.
-.PHONY: check prove archive host vectors compare compare-offsets header reference fmt clean
+.PHONY: check setup prove archive host vectors compare compare-offsets header reference fmt clean
 
 check:
 	.ci/run
@@ -7,7 +7,10 @@ check:
 prove:
 	rt check
 
-archive header reference:
+setup:
+	.ci/setup
+
+archive header reference: setup
 	.ci/step $@
 
 host: archive

@@ -21,9 +21,9 @@ unfoldable pub allOf : Class → List ℕ → Bool
 allOf k [] = true
 allOf k (c ∷ cs) = admits k c && allOf k cs
 
--- a digit's or a hex letter's value, as a nibble
+-- what a digit or a capital hex letter stands for; asked only of those, and a nibble whatever is asked
 unfoldable pub valueOf : ℕ → ℕ
-valueOf c = cond (leb 0x41 c) (c - 0x37) (c - 0x30) % 16
+valueOf c = (cond (leb 0x41 c) (c - 0x37) (c - 0x30)) % 16
 
 -- digits as characters
 abbrev pub characters : List ℕ → List ℕ

@@ -1,4 +1,5 @@
--- Reading and writing a block, as rows of sixteen nibbles. The veil is any row that is XORed in where the format says so.
+-- Reading and writing a block, as rows of sixteen nibbles. The veil is the row that is XORed in where the format says so: here the
+-- account field; the laws hold for any row.
 use Prim.Native.Nat.{ℕ, _+_}
 use mathlib.Core.List.{List, _++_, map}
 use mathlib.Core.Bool.{Bool, true, false, _&&_}

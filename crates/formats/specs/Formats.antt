@@ -107,7 +107,7 @@ isKnown Unknown = false
 abbrev pub knownCode : Code → Outcome Code
 knownCode c = unless Format23 (isKnown c) c
 
--- the two formats that restricted boxes keep
+-- 01 and 47: where a restricted translation from them may go, and the two that a restricted BK takes
 abbrev pub is01or47 : Format → Bool
 is01or47 F01 = true
 is01or47 F03 = false

@@ -99,12 +99,12 @@ pub fn put_differences(m: usize, n: usize, pin: u64, natural: u64, out: &mut [i8
     requires { ⌜ Matched m n pin natural × (m ≤ length (now out)) ⌝ }
     ensures { λ _. ⌜ now (out .exit) ≡ covered m (row n pin) (row n natural) ++ drop m (now (out .entry)) ⌝ }
 {
-    let skipped = n - m;
+    let uncovered = n - m;
     let mut i = 0;
     while i < m {
         out[i] = less(
-            nibbles::nibble(pin, skipped + i),
-            nibbles::nibble(natural, skipped + i),
+            nibbles::nibble(pin, uncovered + i),
+            nibbles::nibble(natural, uncovered + i),
         ) as i8;
         i += 1;
     }

@@ -32,7 +32,7 @@ unfoldable pub row : ℕ → ℕ → List ℕ
 row zero w = []
 row (suc k) w = w % 16 ∷ row k (w / 16)
 
--- a nibble from low to high
+-- a number from low to high
 abbrev pub within : ℕ → ℕ → ℕ → Bool
 within low high n = leb low n && leb n high
 

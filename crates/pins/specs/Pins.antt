@@ -26,7 +26,7 @@ digitsHanded ds = unless Block20 (every digit ds) ds
 abbrev pub pinHanded : List ℕ → Outcome (List ℕ)
 pinHanded ds = andThen (pinLength (length ds)) (λ _. digitsHanded ds)
 
--- fewer than twelve digits would be padded with zeros on the left
+-- twelve digits, padded with zeros on the left; today only twelve are admitted, so nothing is added
 abbrev pub padded : List ℕ → List ℕ
 padded ds = replicate (12 - length ds) 0 ++ ds
 

@@ -1,4 +1,4 @@
--- The settings as the server hands them over. "A flag: 0 is No, anything else Yes, so that every value has an answer."
+-- The settings as the server hands them over: a flag is a byte, and every value of it has an answer.
 use Prim.Native.Nat.{ℕ}
 use mathlib.Core.Bool.{Bool, not}
 use lib.Dec.{eqb}

@@ -1,4 +1,4 @@
-// The settings of the box, by value. Whoever makes them anew starts from the usual ones.
+// The settings of the box, by value.
 ghost use mathlib.Core.Path.{_≡_};
 ghost use mathlib.Core.Bool.{Bool};
 ghost use Rattle.settings.specs.Settings.{usually, headed, restrictedTo, variably};

@@ -19,13 +19,13 @@ use Rattle.ibm3624.proofs.put_differences.Statement.{statement}
 use Rattle.ibm3624.proofs.put_differences.Tie as tie
 
 abbrev Inv-loop : tie.InvT-loop
-Inv-loop m n pin natural out₀ skipped i₀ out i = (i ≤ m) × (out ≡ take i (covered m (row n pin) (row n natural)) ++ drop i out₀)
+Inv-loop m n pin natural out₀ uncovered i₀ out i = (i ≤ m) × (out ≡ take i (covered m (row n pin) (row n natural)) ++ drop i out₀)
 
 abbrev μ-loop : tie.MeasureT-loop
-μ-loop m n pin natural out₀ skipped i₀ out i = m - i
+μ-loop m n pin natural out₀ uncovered i₀ out i = m - i
 
-sub-skipped : tie.Need-sub-skipped Inv-loop μ-loop
-sub-skipped c = omega (arith, c .pre .0 .within)
+sub-uncovered : tie.Need-sub-uncovered Inv-loop μ-loop
+sub-uncovered c = omega (arith, c .pre .0 .within)
 
 loop-holds : tie.Need-loop-holds Inv-loop μ-loop
 loop-holds c = (search needs, refl)
@@ -129,7 +129,7 @@ put-differences-spec =
     (tie.spec
     Inv-loop
     μ-loop
-    sub-skipped
+    sub-uncovered
     loop-holds
     add-nibble
     nibble-requires

@@ -1,0 +1,79 @@
+-- Differences, unreduced and modulo ten.
+-- Assumes nothing.
+use Prim.Native.Nat.{ℕ, zero, suc, _+_, _-_, _%_, _≤_, _<_}
+use native.Mathlib.Omega.{arith}
+use native.Mathlib.Nat.{not-suc-le-zero, le-of-suc-le-suc}
+use mathlib.Core.Path.{_≡_, refl, ap, _∙_, subst}
+use mathlib.Core.List.{List, [], _∷_, map}
+use mathlib.Core.Bool.{Bool, true, false, _&&_}
+use lib.ListN.{length}
+use lib.IntN.{ℤ, natAbs}
+use lib.Dec.{leb, eqb}
+use borrow.Author.Tests.{eqb-true, eqb-false, leb-true}
+use Rattle.nibbles.proofs.Laws.{Below, and-left, and-right, below-drop}
+use Rattle.numbers.specs.Numbers.{done, unless}
+use Rattle.numbers.specs.declared.Refusal.the-variants.{Room901}
+use Rattle.numbers.proofs.Laws.{passed, then-done, value-of}
+use Rattle.ibm3624.specs.Ibm3624.{covers, lastOf, difference, differences, covered, moduloTen}
+use Rattle.offsets.specs.Offsets.{digitsGiven, digitsJudged, differencesOf}
+use Rattle.offsets.proofs.Laws.{digits-alike}
+use Rattle.claims_offsets.specs.Claims.{ReducedDifferences, NineAtMost, DifferenceRange, ModuloTen}
+
+-- ---- a test that is computed at the hundred pairs of digits
+
+-- the test passes at every number below k
+abbrev upTo : ℕ → (ℕ → Bool) → Bool
+upTo zero f = true
+upTo (suc k) f = f k && upTo k f
+
+passes : (f : ℕ → Bool) (k n : ℕ) → upTo k f ≡ true → n < k → f n ≡ true
+passes f zero n e h = absurd (not-suc-le-zero h)
+passes f (suc k) n e h = go (passes f k n (and-right (f k) (upTo k f) e)) (eqb n k) refl
+  where
+    go : (n < k → f n ≡ true) → (b : Bool) → eqb n k ≡ b → f n ≡ true
+    go rest true q = ap f (eqb-true n k q) ∙ and-left (f k) (upTo k f) e
+    go rest false q = rest (let d = eqb-false n k q in omega arith)
+
+at-pair : (test : ℕ → ℕ → Bool) → upTo 10 (λ p. upTo 10 (test p)) ≡ true → (p q : ℕ) → p ≤ 9 → q ≤ 9 → test p q ≡ true
+at-pair test all p q h k = passes (test p) 10 q (passes (λ m. upTo 10 (test m)) 10 p all (omega arith)) (omega arith)
+
+pub modulo-ten : ModuloTen
+modulo-ten p q h k = eqb-true _ _ (at-pair (λ m n. eqb ((n + moduloTen (difference m n)) % 10) m) refl p q h k)
+
+difference-nine : (p q : ℕ) → p ≤ 9 → q ≤ 9 → natAbs (difference p q) ≤ 9
+difference-nine p q h k = leb-true _ _ (at-pair (λ m n. leb (natAbs (difference m n)) 9) refl p q h k)
+
+differences-nine : (ps qs : List ℕ) → Below 10 ps → Below 10 qs → NineAtMost (differences ps qs)
+unfolding differences
+differences-nine [] qs b c = tt
+differences-nine (p ∷ ps) [] b c = tt
+differences-nine (p ∷ ps) (q ∷ qs) b c = (difference-nine p q (le-of-suc-le-suc (b .0)) (le-of-suc-le-suc (c .0)), differences-nine ps qs (b .1) (c .1))
+
+-- ---- the teacher's view
+
+-- the differences that were given are those of a PIN and its natural PIN, over the covered digits
+module _ (variable : Bool) (check : ℕ) (pin natural : List ℕ) (room : ℕ) (zs : List ℤ) (e : differencesOf variable check pin natural room ≡ done zs) where
+  viewed :
+      (p : List ℕ × List ℕ) × (m : ℕ) × (leb 12 room ≡ true) × (digitsGiven check pin natural ≡ done p) × (covers variable check (length (p .0)) ≡ done m)
+      × (covered m (p .0) (p .1) ≡ zs)
+  unfolding differencesOf
+  viewed =
+      let r = then-done (unless Room901 (leb 12 room) room) _ zs e in
+      let p = then-done (digitsGiven check pin natural) _ zs (r .2) in
+      let t = then-done (covers variable check (length (p .0 .0))) _ zs (p .2) in
+      (p .0, t .0, passed Room901 (leb 12 room) room (r .0) (r .1) .0, p .1, t .1, value-of (t .2))
+
+pub reduced-differences : ReducedDifferences
+unfolding digitsJudged
+reduced-differences variable check pin natural room zs e =
+    let v = viewed variable check pin natural room zs e in
+    rw (v .2, v .3, v .4) (ap (λ (xs : List ℤ). done (map moduloTen xs)) (v .5))
+
+pub difference-range : DifferenceRange
+difference-range variable check pin natural room zs e =
+    let v = viewed variable check pin natural room zs e in
+    let ps = v .0 .0 in
+    let qs = v .0 .1 in
+    let alike = digits-alike check pin natural (v .0) (v .3) in
+    subst NineAtMost (v .5)
+    (differences-nine (lastOf (v .1) ps) (lastOf (v .1) qs) (below-drop 10 (length ps - v .1) ps (alike .pin .digits)) (below-drop 10 (length qs - v .1) qs (alike .natural)))

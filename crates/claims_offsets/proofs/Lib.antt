@@ -1,0 +1,5 @@
+pub mod Figures
+pub mod Verdicts
+pub mod Texts
+pub mod Digits
+pub mod Promises

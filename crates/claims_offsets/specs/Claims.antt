@@ -1,0 +1,61 @@
+-- What is claimed of offsets, differences, PVVs and their verdicts.
+use Prim.Native.Nat.{ℕ, _+_, _%_, _≤_}
+use mathlib.Core.Path.{_≡_}
+use mathlib.Core.Logic.{_↔_}
+use mathlib.Core.List.{List, [], _∷_, map}
+use mathlib.Core.Bool.{Bool}
+use lib.ListN.{length}
+use lib.IntN.{ℤ, natAbs}
+use Rattle.numbers.specs.Numbers.{Outcome, done, refused}
+use Rattle.numbers.specs.declared.Refusal.the-variants.{Unverified01}
+use Rattle.formats.specs.Formats.{codeOf, formatOf, blockWidth}
+use Rattle.formats.specs.declared.Format.{Format}
+use Rattle.pins.specs.Pins.{accountOf, accountField, sized}
+use Rattle.blocks.specs.Blocks.{readRow}
+use Rattle.ibm3624.specs.Ibm3624.{covers, offsetOf, offsetPresented, difference, moduloTen}
+use Rattle.offsets.specs.Offsets.{given, pinAndNatural, offsetMade, offsetVerdict, digitsJudged, differencesOf}
+use Rattle.pvv.specs.Pvv.{pvvOf, keyIndex, presented, pvvVerdict}
+use Rattle.claims_blocks.specs.Claims.{IsBytes}
+
+-- an offset that was made verifies, by the same inputs
+abbrev pub OffsetVerifies : Type 0
+OffsetVerifies = (variable : Bool) (code check : ℕ) (block account table enciphered text : List ℕ) (room : ℕ) → IsBytes block → IsBytes enciphered
+    → offsetMade variable code check block account table enciphered room ≡ done text
+    → offsetVerdict variable code check block account table enciphered text ≡ done []
+
+-- 00 exactly under the condition, otherwise 01
+abbrev pub Exactly : Outcome (List ℕ) → Type 0 → Type 0
+Exactly o condition = ((o ≡ done []) ↔ condition) × ((condition → ⊥) → o ≡ refused Unverified01)
+
+-- the verdict on an offset that gets as far as comparing is 00 exactly for the offset defined, over the last m digits, otherwise 01
+abbrev pub VerdictExactly : Type 0
+VerdictExactly = (variable : Bool) (code check m : ℕ) (block account table enciphered offset os : List ℕ) (g : List ℕ × List ℕ × List ℕ) (p : List ℕ × List ℕ)
+    → given code check block account table enciphered ≡ done g → offsetPresented offset ≡ done os → pinAndNatural code table g ≡ done p
+    → covers variable check (length (p .0)) ≡ done m → length os ≡ m
+    → Exactly (offsetVerdict variable code check block account table enciphered offset) (os ≡ offsetOf m (p .0) (p .1))
+
+-- the verdict on a PVV that gets as far as comparing is 00 exactly for equal digits, otherwise 01
+abbrev pub PvvVerdictExactly : Type 0
+PvvVerdictExactly = (code index k : ℕ) (block account enciphered pvv ns digits es ps ds : List ℕ) (f : Format)
+    → sized (blockWidth code) block ≡ done ns → accountOf account ≡ done digits → keyIndex index ≡ done k → sized 8 enciphered ≡ done es → presented pvv ≡ done ps
+    → formatOf (codeOf code) ≡ done f → readRow f (accountField digits) ns ≡ done ds
+    → Exactly (pvvVerdict code index block account enciphered pvv) (pvvOf es ≡ ps)
+
+-- the offset's digits are the differences of the same inputs, modulo ten
+abbrev pub ReducedDifferences : Type 0
+ReducedDifferences = (variable : Bool) (check : ℕ) (pin natural : List ℕ) (room : ℕ) (zs : List ℤ)
+    → differencesOf variable check pin natural room ≡ done zs → digitsJudged variable check pin natural room ≡ done (map moduloTen zs)
+
+-- every number of a list lies from -9 to 9
+abbrev pub NineAtMost : List ℤ → Type 0
+NineAtMost [] = Unit {0}
+NineAtMost (z ∷ zs) = (natAbs z ≤ 9) × NineAtMost zs
+
+-- every difference that the teacher's view gives lies from -9 to 9
+abbrev pub DifferenceRange : Type 0
+DifferenceRange = (variable : Bool) (check : ℕ) (pin natural : List ℕ) (room : ℕ) (zs : List ℤ)
+    → differencesOf variable check pin natural room ≡ done zs → NineAtMost zs
+
+-- the offset digit, added to the natural digit modulo ten, gives the PIN digit
+abbrev pub ModuloTen : Type 0
+ModuloTen = (p q : ℕ) → p ≤ 9 → q ≤ 9 → (q + moduloTen (difference p q)) % 10 ≡ p
