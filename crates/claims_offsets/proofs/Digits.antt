@@ -1,47 +1,29 @@
 -- Differences, unreduced and modulo ten.
 -- Assumes nothing.
-use Prim.Native.Nat.{ℕ, zero, suc, _+_, _-_, _%_, _≤_, _<_}
-use native.Mathlib.Omega.{arith}
-use native.Mathlib.Nat.{not-suc-le-zero, le-of-suc-le-suc}
-use mathlib.Core.Path.{_≡_, refl, ap, _∙_, subst}
+use Prim.Native.Nat.{ℕ, _+_, _-_, _%_, _≤_}
+use native.Mathlib.Nat.{le-of-suc-le-suc}
+use mathlib.Core.Path.{_≡_, refl, ap, subst}
 use mathlib.Core.List.{List, [], _∷_, map}
-use mathlib.Core.Bool.{Bool, true, false, _&&_}
+use mathlib.Core.Bool.{Bool, true}
 use lib.ListN.{length}
 use lib.IntN.{ℤ, natAbs}
 use lib.Dec.{leb, eqb}
-use borrow.Author.Tests.{eqb-true, eqb-false, leb-true}
-use Rattle.nibbles.proofs.Laws.{Below, and-left, and-right, below-drop}
+use borrow.Author.Tests.{eqb-true, leb-true}
+use Rattle.nibbles.proofs.Laws.{Below, below-drop}
 use Rattle.numbers.specs.Numbers.{done, unless}
 use Rattle.numbers.specs.declared.Refusal.the-variants.{Room901}
 use Rattle.numbers.proofs.Laws.{passed, then-done, value-of}
 use Rattle.ibm3624.specs.Ibm3624.{covers, lastOf, difference, differences, covered, moduloTen}
+use Rattle.ibm3624.proofs.Signed.{at-digits}
 use Rattle.offsets.specs.Offsets.{digitsGiven, digitsJudged, differencesOf}
 use Rattle.offsets.proofs.Laws.{digits-alike}
 use Rattle.claims_offsets.specs.Claims.{ReducedDifferences, NineAtMost, DifferenceRange, ModuloTen}
 
--- ---- a test that is computed at the hundred pairs of digits
-
--- the test passes at every number below k
-abbrev upTo : ℕ → (ℕ → Bool) → Bool
-upTo zero f = true
-upTo (suc k) f = f k && upTo k f
-
-passes : (f : ℕ → Bool) (k n : ℕ) → upTo k f ≡ true → n < k → f n ≡ true
-passes f zero n e h = absurd (not-suc-le-zero h)
-passes f (suc k) n e h = go (passes f k n (and-right (f k) (upTo k f) e)) (eqb n k) refl
-  where
-    go : (n < k → f n ≡ true) → (b : Bool) → eqb n k ≡ b → f n ≡ true
-    go rest true q = ap f (eqb-true n k q) ∙ and-left (f k) (upTo k f) e
-    go rest false q = rest (let d = eqb-false n k q in omega arith)
-
-at-pair : (test : ℕ → ℕ → Bool) → upTo 10 (λ p. upTo 10 (test p)) ≡ true → (p q : ℕ) → p ≤ 9 → q ≤ 9 → test p q ≡ true
-at-pair test all p q h k = passes (test p) 10 q (passes (λ m. upTo 10 (test m)) 10 p all (omega arith)) (omega arith)
-
 pub modulo-ten : ModuloTen
-modulo-ten p q h k = eqb-true _ _ (at-pair (λ m n. eqb ((n + moduloTen (difference m n)) % 10) m) refl p q h k)
+modulo-ten p q h k = eqb-true _ _ (at-digits (λ m n. eqb ((n + moduloTen (difference m n)) % 10) m) refl p q h k)
 
 difference-nine : (p q : ℕ) → p ≤ 9 → q ≤ 9 → natAbs (difference p q) ≤ 9
-difference-nine p q h k = leb-true _ _ (at-pair (λ m n. leb (natAbs (difference m n)) 9) refl p q h k)
+difference-nine p q h k = leb-true _ _ (at-digits (λ m n. leb (natAbs (difference m n)) 9) refl p q h k)
 
 differences-nine : (ps qs : List ℕ) → Below 10 ps → Below 10 qs → NineAtMost (differences ps qs)
 unfolding differences

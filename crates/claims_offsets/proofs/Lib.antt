@@ -3,3 +3,4 @@ pub mod Verdicts
 pub mod Texts
 pub mod Digits
 pub mod Promises
+pub mod Converse

@@ -6,15 +6,15 @@ use mathlib.Core.List.{List, [], _∷_, map}
 use mathlib.Core.Bool.{Bool}
 use lib.ListN.{length}
 use lib.IntN.{ℤ, natAbs}
-use Rattle.numbers.specs.Numbers.{Outcome, done, refused}
+use Rattle.numbers.specs.Numbers.{Outcome, done, refused, andThen}
 use Rattle.numbers.specs.declared.Refusal.the-variants.{Unverified01}
 use Rattle.formats.specs.Formats.{codeOf, formatOf, blockWidth}
 use Rattle.formats.specs.declared.Format.{Format}
 use Rattle.pins.specs.Pins.{accountOf, accountField, sized}
 use Rattle.blocks.specs.Blocks.{readRow}
-use Rattle.ibm3624.specs.Ibm3624.{covers, offsetOf, offsetPresented, difference, moduloTen}
-use Rattle.offsets.specs.Offsets.{given, pinAndNatural, offsetMade, offsetVerdict, digitsJudged, differencesOf}
-use Rattle.pvv.specs.Pvv.{pvvOf, keyIndex, presented, pvvVerdict}
+use Rattle.ibm3624.specs.Ibm3624.{covers, offsetOf, offsetText, offsetPresented, difference, moduloTen}
+use Rattle.offsets.specs.Offsets.{given, pinAndNatural, offsetMade, offsetOfDigits, offsetVerdict, digitsJudged, differencesOf}
+use Rattle.pvv.specs.Pvv.{pvvOf, keyIndex, presented, pvvMade, pvvVerdict}
 use Rattle.claims_blocks.specs.Claims.{IsBytes}
 
 -- an offset that was made verifies, by the same inputs
@@ -34,6 +34,16 @@ VerdictExactly = (variable : Bool) (code check m : ℕ) (block account table enc
     → covers variable check (length (p .0)) ≡ done m → length os ≡ m
     → Exactly (offsetVerdict variable code check block account table enciphered offset) (os ≡ offsetOf m (p .0) (p .1))
 
+-- the verdict is 00 exactly for the text that the offset call makes of the same inputs
+abbrev pub VerdictIsOffset : Type 0
+VerdictIsOffset = (variable : Bool) (code check : ℕ) (block account table enciphered offset : List ℕ) (room : ℕ) → IsBytes block → IsBytes enciphered → 12 ≤ room
+    → (offsetVerdict variable code check block account table enciphered offset ≡ done []) ↔ (offsetMade variable code check block account table enciphered room ≡ done offset)
+
+-- a PVV whose verdict is 00 is the very text that the PVV call makes of the enciphered input
+abbrev pub PvvVerdictIsPvv : Type 0
+PvvVerdictIsPvv = (code index : ℕ) (block account enciphered pvv : List ℕ) (room : ℕ) → 4 ≤ room
+    → pvvVerdict code index block account enciphered pvv ≡ done [] → pvvMade enciphered room ≡ done pvv
+
 -- the verdict on a PVV that gets as far as comparing is 00 exactly for equal digits, otherwise 01
 abbrev pub PvvVerdictExactly : Type 0
 PvvVerdictExactly = (code index k : ℕ) (block account enciphered pvv ns digits es ps ds : List ℕ) (f : Format)
@@ -45,6 +55,11 @@ PvvVerdictExactly = (code index k : ℕ) (block account enciphered pvv ns digits
 abbrev pub ReducedDifferences : Type 0
 ReducedDifferences = (variable : Bool) (check : ℕ) (pin natural : List ℕ) (room : ℕ) (zs : List ℤ)
     → differencesOf variable check pin natural room ≡ done zs → digitsJudged variable check pin natural room ≡ done (map moduloTen zs)
+
+-- the two calls: what is refused by one is refused by the other, and what is made by one is the other's differences modulo ten
+abbrev pub OffsetIsReduced : Type 0
+OffsetIsReduced = (variable : Bool) (check : ℕ) (pin natural : List ℕ) (room : ℕ)
+    → offsetOfDigits variable check pin natural room ≡ andThen (differencesOf variable check pin natural room) (λ zs. done (offsetText (map moduloTen zs)))
 
 -- every number of a list lies from -9 to 9
 abbrev pub NineAtMost : List ℤ → Type 0

@@ -15,7 +15,7 @@ use Rattle.nibbles.proofs.Laws.{and-left, and-right}
 use Rattle.ibm3624.specs.Ibm3624.{difference, moduloTen}
 
 -- the test passes at every number below k
-abbrev upTo : ℕ → (ℕ → Bool) → Bool
+abbrev pub upTo : ℕ → (ℕ → Bool) → Bool
 upTo zero f = true
 upTo (suc k) f = f k && upTo k f
 
@@ -28,9 +28,12 @@ passes f (suc k) n e h = go (passes f k n (and-right (f k) (upTo k f) e)) (eqb n
     go rest false q = rest (let d = eqb-false n k q in omega arith)
 
 -- the test passes at every pair of digits
-module _ (test : ℤ → Bool) (all : upTo 10 (λ p. upTo 10 (λ q. test (difference p q))) ≡ true) where
-  at-pair : (p q : ℕ) → p ≤ 9 → q ≤ 9 → test (difference p q) ≡ true
-  at-pair p q h k = passes (λ n. test (difference p n)) 10 q (passes (λ m. upTo 10 (λ n. test (difference m n))) 10 p all (omega arith)) (omega arith)
+pub at-digits : (test : ℕ → ℕ → Bool) → upTo 10 (λ p. upTo 10 (test p)) ≡ true → (p q : ℕ) → p ≤ 9 → q ≤ 9 → test p q ≡ true
+at-digits test all p q h k = passes (test p) 10 q (passes (λ m. upTo 10 (test m)) 10 p all (omega arith)) (omega arith)
+
+-- at the difference of every pair
+at-pair : (test : ℤ → Bool) → upTo 10 (λ p. upTo 10 (λ q. test (difference p q))) ≡ true → (p q : ℕ) → p ≤ 9 → q ≤ 9 → test (difference p q) ≡ true
+at-pair test = at-digits (λ p q. test (difference p q))
 
 module _ (p q : ℕ) (h : p ≤ 9) (k : q ≤ 9) where
   pub difference-fits : SFits w32 (difference p q)

@@ -1,4 +1,4 @@
-// The IBM 3624 calls: natural PIN, offset, differences and verdict.
+// The IBM 3624 calls over a block or over digits: offset, differences and verdict.
 ghost use mathlib.Core.Path.{_≡_};
 ghost use mathlib.Core.List.{[]};
 ghost use Prim.Native.Nat.{_^_, _<_, _≤_};
@@ -277,7 +277,7 @@ pub fn offset_of_digits(
     answer(judged, out)
 }
 
-// Judges the call that gives the differences: 901, 15, the PIN and the natural PIN, 81.
+// Gives the differences of digits: 901, 15, the PIN and the natural PIN, 81.
 pub fn differences(
     settings: Settings,
     check: u32,
