@@ -1,15 +1,17 @@
 -- Laws of characters and classes.
 -- Assumes nothing.
 use Prim.Native.Nat.{ℕ, _+_, _-_, _≤_, _<_}
-use native.Mathlib.Nat.{mod-lt}
+use native.Mathlib.Nat.{mod-lt, add-suc}
+use native.Mathlib.Omega.{arith}
+use borrow.Author.Tests.{eq-eqb, ne-eqb}
 use native.Mathlib.Numerals.{add-one}
-use mathlib.Core.Path.{_≡_}
-use mathlib.Core.List.{List}
-use mathlib.Core.Bool.{true, false, cond}
-use lib.ListN.{length, getD}
-use lib.Seq.{slice, slice-cons, slice-empty}
-use lib.Dec.{leb, lit<}
-use Rattle.alphabet.specs.Alphabet.{admits, allOf, valueOf}
+use mathlib.Core.Path.{_≡_, refl, sym}
+use mathlib.Core.List.{List, [], _∷_}
+use mathlib.Core.Bool.{Bool, true, false, _&&_, cond}
+use lib.ListN.{length, getD, drop, drop-of-length-le}
+use lib.Seq.{drop-cons, slice, slice-cons, slice-empty}
+use lib.Dec.{leb, eqb, lit<}
+use Rattle.alphabet.specs.Alphabet.{admits, allOf, begins, valueOf}
 use Rattle.alphabet.specs.declared.Class.{Class}
 
 pub value-below : (c : ℕ) → valueOf c < 16
@@ -30,3 +32,30 @@ module _ (k : Class) (s : List ℕ) where
   pub all-over : (to : ℕ) → allOf k (slice to to s) ≡ true
   unfolding allOf
   all-over to = rw (slice-empty to s)
+
+-- too few characters
+and-false : (b : Bool) → (b && false) ≡ false
+and-false true = refl
+and-false false = refl
+
+pub begins-short : (ts cs : List ℕ) → length cs < length ts → begins ts cs ≡ false
+unfolding begins
+begins-short [] cs h = absurd (omega arith)
+begins-short (t ∷ ts) [] h = refl
+begins-short (t ∷ ts) (c ∷ cs) h = rw (begins-short ts cs (omega arith)) (and-false (eqb t c))
+
+module _ (ts cs : List ℕ) (i from : ℕ) (here : i < length ts) (there : from + i < length cs) where
+  -- one more character of the text, or another one
+  opened : begins (drop i ts) (drop (from + i) cs) ≡ (eqb (getD ts i 0) (getD cs (from + i) 0) && begins (drop (i + 1) ts) (drop (from + (i + 1)) cs))
+  unfolding begins
+  opened = rw (drop-cons ts i 0 here, drop-cons cs (from + i) 0 there, add-one i, add-suc from i)
+
+  pub begins-on : getD cs (from + i) 0 ≡ getD ts i 0 → begins (drop i ts) (drop (from + i) cs) ≡ begins (drop (i + 1) ts) (drop (from + (i + 1)) cs)
+  begins-on e = rw (opened, eq-eqb (getD ts i 0) (getD cs (from + i) 0) (sym e))
+
+  pub begins-stop : (getD cs (from + i) 0 ≡ getD ts i 0 → ⊥) → begins (drop i ts) (drop (from + i) cs) ≡ false
+  begins-stop h = rw (opened, ne-eqb (getD ts i 0) (getD cs (from + i) 0) (λ e. h (sym e)))
+
+pub begins-over : (ts cs : List ℕ) (i : ℕ) → length ts ≤ i → begins (drop i ts) cs ≡ true
+unfolding begins
+begins-over ts cs i h = rw (drop-of-length-le ts h)

@@ -1,8 +1,8 @@
 -- Which characters a class admits, and a character's value.
 use Prim.Native.Nat.{ℕ, _+_, _-_, _%_}
 use mathlib.Core.List.{List, [], _∷_, map}
-use mathlib.Core.Bool.{Bool, true, _&&_, _||_, cond}
-use lib.Dec.{leb}
+use mathlib.Core.Bool.{Bool, true, false, _&&_, _||_, cond}
+use lib.Dec.{leb, eqb}
 use Rattle.alphabet.specs.declared.Class.{Class}
 use Rattle.alphabet.specs.declared.Class.the-variants.{Digit, CapitalHex, Printable}
 
@@ -20,6 +20,12 @@ admits Printable c = between 0x20 0x7E c
 unfoldable pub allOf : Class → List ℕ → Bool
 allOf k [] = true
 allOf k (c ∷ cs) = admits k c && allOf k cs
+
+-- the characters begin with a fixed text
+unfoldable pub begins : List ℕ → List ℕ → Bool
+begins [] cs = true
+begins (t ∷ ts) [] = false
+begins (t ∷ ts) (c ∷ cs) = eqb t c && begins ts cs
 
 -- what a digit or a capital hex letter stands for; asked only of those, and a nibble whatever is asked
 unfoldable pub valueOf : ℕ → ℕ

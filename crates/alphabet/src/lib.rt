@@ -1,9 +1,9 @@
 // Which characters a field is made of, and what a character stands for.
 ghost use mathlib.Core.Path.{_≡_};
-ghost use Prim.Native.Nat.{_≤_};
-ghost use lib.ListN.{length};
+ghost use Prim.Native.Nat.{_-_, _≤_};
+ghost use lib.ListN.{length, drop};
 ghost use lib.Seq.{slice};
-ghost use Rattle.alphabet.specs.Alphabet.{admits, allOf, valueOf};
+ghost use Rattle.alphabet.specs.Alphabet.{admits, allOf, begins, valueOf};
 
 pub enum Class {
     Digit,
@@ -37,6 +37,33 @@ pub fn all_of(class: Class, s: &[u8], from: usize, to: usize) -> bool
     let mut i = from;
     while i < to {
         if !class.admits(s[i]) {
+            return false;
+        }
+        i += 1;
+    }
+    true
+}
+
+// How many characters there are from a place on.
+pub fn ahead(s: &[u8], from: usize) -> usize
+    ensures { λ r. ⌜ r ≡ length (now (s .entry)) - from ⌝ }
+{
+    if s.len() < from {
+        return 0;
+    }
+    s.len() - from
+}
+
+// Whether a fixed text stands at a place.
+pub fn has_at(s: &[u8], from: usize, text: &[u8]) -> bool
+    ensures { λ r. ⌜ r ≡ begins (now (text .entry)) (drop from (now (s .entry))) ⌝ }
+{
+    if ahead(s, from) < text.len() {
+        return false;
+    }
+    let mut i = 0;
+    while i < text.len() {
+        if s[from + i] != text[i] {
             return false;
         }
         i += 1;
