@@ -22,6 +22,7 @@ use Rattle.pins.specs.Pins.{digit, pinHanded, digitsHanded, accountOf, accountF
 use Rattle.alphabet.specs.Alphabet.{allOf, valueOf}
 use Rattle.alphabet.specs.declared.Class.the-variants.{Digit}
 use Rattle.formats.specs.Formats.{codeOf, formatOf}
+use Rattle.formats.specs.declared.Format.{Format}
 use Rattle.pins.proofs.Laws.{Pinned, handed-done, account-done, digits-below}
 use Rattle.blocks.specs.Blocks.{readRow}
 use Rattle.blocks.proofs.Laws.{Sixteen, bytes-sixteen, sixteen-word, read-pinned}
@@ -29,7 +30,7 @@ use Rattle.pins.specs.Answers.{readingOf}
 use Rattle.ibm3624.specs.Ibm3624.{tableOf, covered, offsetOf, offsetText, checkLength, covers, naturalHanded, tableSized, digitEnd, offsetPresented}
 use Rattle.ibm3624.proofs.Laws.{natural-long, natural-digits, offset-length, reduced-below}
 use Rattle.ibm3624.specs.Answers.{Matched}
-use Rattle.offsets.specs.Offsets.{given, pinAndNatural, digitsGiven, offsetFor, offsetJudged, digitsJudged, spelt, differencesOf, verdictOn, offsetVerdict}
+use Rattle.offsets.specs.Offsets.{given, pinWithNatural, pinAndNatural, digitsGiven, offsetFor, offsetJudged, digitsJudged, spelt, differencesOf, verdictOn, offsetVerdict}
 use Rattle.offsets.specs.Answers.{givenOf, comparisonOf, rowsIn, pairIn, Fit, textOf, Roomy}
 use Rattle.offsets.specs.declared.Rows.{Rows}
 use Rattle.offsets.specs.declared.Given.the-variants as taken
@@ -97,6 +98,45 @@ digits-alike check pin natural p e =
       long = ap length (sym (t .1)) ∙ eqb-true _ _ (t .0);
       natural = subst (Below 10) (t .1) (every-below 9 natural (q .0));
     })
+
+module _ (f : Format) (ts : List ℕ) (g : List ℕ × List ℕ × List ℕ) (ns : length (g .0) ≡ 16) (digits : length (g .1) ≡ 12) (es : length (g .2) ≡ 16) where
+  -- what is read from a block, and made of an enciphered block through a table of digits
+  pub natural-alike : Below 10 ts → (p : List ℕ × List ℕ) → pinWithNatural f ts g ≡ done p → Alike p
+  unfolding pinWithNatural
+  natural-alike table p e =
+      let d = then-done (readRow f (accountField (g .1)) (g .0)) _ p e in
+      let pin = read-pinned f (accountField (g .1)) (g .0) (d .0) (omega arith) ns (d .1) in
+      subst Alike (value-of (d .2))
+      (record {
+        pin = pin;
+        long = natural-long (length (d .0)) ts (g .2) (omega (arith, pin .short));
+        natural = natural-digits (length (d .0)) ts (g .2) table;
+      })
+
+  -- the same in the words of the definitions
+  pub with-natural-fit :
+      every digit ts ≡ true → (p : List ℕ × List ℕ) → pinWithNatural f ts g ≡ done p
+      → (4 ≤ length (p .0)) × (length (p .0) ≤ 12) × (every digit (p .0) ≡ true) × (every digit (p .1) ≡ true) × (length (p .1) ≡ length (p .0))
+  with-natural-fit table p e =
+      let a = natural-alike (every-below 9 ts table) p e in
+      (a .pin .long, a .pin .short, below-every 9 (p .0) (a .pin .digits), below-every 9 (p .1) (a .natural), a .long)
+
+-- a value that is given may be compared, and holds the PIN and natural PIN of the outcome
+pub comparison-fit :
+    (o : Outcome (List ℕ × List ℕ)) → ((p : List ℕ × List ℕ) → o ≡ done p → Alike p) → (c : Compared) → comparison.Of c ≡ comparisonOf o
+    → (p : List ℕ × List ℕ) × (o ≡ done p) × Fit c × (pairIn c ≡ p)
+comparison-fit o alike c e =
+    let p = comparison-of o c e in
+    let a = alike (p .0) (p .1) in
+    (p .0, p .1, subst Fit (sym (p .2)) (pair-fit (p .0) a), ap pairIn (p .2) ∙ pair-back (p .0) a)
+
+-- such a value, of rows in words
+pub with-natural-compared :
+    (f : Format) (table : ℕ) (rows : Rows) → every digit (row 16 table) ≡ true → (c : Compared) → comparison.Of c ≡ comparisonOf (pinWithNatural f (row 16 table) (rowsIn rows))
+    → (p : List ℕ × List ℕ) × (pinWithNatural f (row 16 table) (rowsIn rows) ≡ done p) × Fit c × (pairIn c ≡ p)
+with-natural-compared f table rows t =
+    comparison-fit (pinWithNatural f (row 16 table) (rowsIn rows))
+    (natural-alike f (row 16 table) (rowsIn rows) (row-length 16 (rows .block)) (row-length 12 (rows .account)) (row-length 16 (rows .enciphered)) (every-below 9 (row 16 table) t))
 
 -- ---- how many digits are covered
 
@@ -179,15 +219,8 @@ module _ (code check : ℕ) (block account table enciphered : List ℕ) where
   pair-alike g l p e =
       let f = then-done (formatOf (codeOf code)) _ p e in
       let t = then-done (tableOf table) _ p (f .2) in
-      let d = then-done (readRow (f .0) (accountField (g .1)) (g .0)) _ p (t .2) in
-      let pin = read-pinned (f .0) (accountField (g .1)) (g .0) (d .0) (omega (arith, l .digits .0)) (l .ns .long) (d .1) in
       let tp = passed Table25 (allOf Digit table) (map valueOf table) (t .0) (t .1) in
-      subst Alike (value-of (d .2))
-      (record {
-        pin = pin;
-        long = natural-long (length (d .0)) (t .0) (g .2) (omega (arith, l .es .long, pin .short));
-        natural = natural-digits (length (d .0)) (t .0) (g .2) (subst (Below 10) (tp .1) (digits-below table (tp .0)));
-      })
+      natural-alike (f .0) (t .0) g (l .ns .long) (l .digits .0) (l .es .long) (subst (Below 10) (tp .1) (digits-below table (tp .0))) p (t .2)
 
 -- ---- an outcome that is an offset, as the answer that is written
 

@@ -9,6 +9,7 @@ use Rattle.nibbles.specs.Nibbles.{same}
 use Rattle.numbers.specs.Numbers.{Outcome, done, andThen, unless}
 use Rattle.numbers.specs.declared.Refusal.the-variants.{Unverified01, Check81, Room901}
 use Rattle.formats.specs.Formats.{codeOf, formatOf, blockWidth}
+use Rattle.formats.specs.declared.Format.{Format}
 use Rattle.pins.specs.Pins.{pinHanded, accountOf, accountField, sized}
 use Rattle.blocks.specs.Blocks.{readRow}
 use Rattle.ibm3624.specs.Ibm3624.{tableSized, tableOf, naturalOf, naturalHanded, checkLength, covers, covered, offsetOf, offsetText, offsetPresented}
@@ -23,13 +24,18 @@ given code check block account table enciphered =
     (λ _. andThen (sized 8 enciphered)
     (λ es. done (ns, digits, es))))))
 
--- 23, 69, 25, the block: the PIN and its natural PIN
+-- the block: the PIN and its natural PIN
+unfoldable pub pinWithNatural : Format → List ℕ → List ℕ × List ℕ × List ℕ → Outcome (List ℕ × List ℕ)
+pinWithNatural f ts g =
+    andThen (readRow f (accountField (g .1)) (g .0))
+    (λ ds. done (ds, naturalOf (length ds) ts (g .2)))
+
+-- 23, 69, 25, then the block
 unfoldable pub pinAndNatural : ℕ → List ℕ → List ℕ × List ℕ × List ℕ → Outcome (List ℕ × List ℕ)
 pinAndNatural code table g =
     andThen (formatOf (codeOf code))
     (λ f. andThen (tableOf table)
-    (λ ts. andThen (readRow f (accountField (g .1)) (g .0))
-    (λ ds. done (ds, naturalOf (length ds) ts (g .2)))))
+    (λ ts. pinWithNatural f ts g))
 
 -- 15 for the check length, then the PIN and the natural PIN handed in
 unfoldable pub digitsGiven : ℕ → List ℕ → List ℕ → Outcome (List ℕ × List ℕ)

@@ -3,14 +3,15 @@ ghost use mathlib.Core.Path.{_≡_};
 ghost use mathlib.Core.List.{[]};
 ghost use Prim.Native.Nat.{_^_, _<_, _≤_};
 ghost use lib.ListN.{length};
-ghost use Rattle.nibbles.specs.Nibbles.{every};
+ghost use Rattle.nibbles.specs.Nibbles.{every, row};
 ghost use Rattle.numbers.specs.Promise.{Does, quietly};
 ghost use Rattle.pins.specs.Pins.{digit};
 ghost use Rattle.pins.specs.Answers.{readingOf, rowOf};
 ghost use Rattle.blocks.specs.Answers.{digitsOf};
-ghost use Rattle.offsets.specs.Offsets.{given, pinAndNatural, digitsGiven, offsetFor, offsetJudged, digitsJudged, offsetMade, offsetOfDigits, differencesOf, verdictOn, offsetVerdict};
+ghost use Rattle.offsets.specs.Offsets.{given, pinWithNatural, pinAndNatural, digitsGiven, offsetFor, offsetJudged, digitsJudged, offsetMade, offsetOfDigits, differencesOf, verdictOn, offsetVerdict};
 ghost use Rattle.offsets.specs.Answers.{givenOf, comparisonOf, refusalIn, rowsIn, pairIn, Fit, textOf, Roomy};
 use formats::Chosen;
+use formats::Format;
 use numbers::Refusal;
 use numbers::Reply;
 use pins::Count;
@@ -96,6 +97,24 @@ fn taken(
     })
 }
 
+// The block: the PIN with its natural PIN. The table's digits are a row in a word.
+pub fn with_natural(format: Format, table: u64, rows: Rows) -> Comparison
+    requires { ⌜ rows .account < 16 ^ 12 ⌝ }
+    ensures { λ r. ⌜ r ≡ comparisonOf (pinWithNatural format (row 16 table) (rowsIn rows)) ⌝ }
+{
+    let reading = blocks::read(format, pins::field(rows.account), rows.block);
+    let Reading::Got(pin) = reading else {
+        return Comparison::Bad(reading.refusal());
+    };
+    let n = pin.length;
+    let natural = ibm3624::natural(n, table, rows.enciphered);
+    Comparison::Of(Compared {
+        length: n,
+        pin: pin.digits,
+        natural: natural.digits,
+    })
+}
+
 // 23, 69, 25, the block: the PIN with its natural PIN.
 fn paired(format: u32, table: &[u8], rows: Rows) -> Comparison
     requires { ⌜ (length (now table) ≡ 16) × (rows .account < 16 ^ 12) ⌝ }
@@ -109,17 +128,7 @@ fn paired(format: u32, table: &[u8], rows: Rows) -> Comparison
     let Row::Held(digits) = decimals else {
         return Comparison::Bad(Refusal::Table25);
     };
-    let reading = blocks::read(f, pins::field(rows.account), rows.block);
-    let Reading::Got(pin) = reading else {
-        return Comparison::Bad(reading.refusal());
-    };
-    let n = pin.length;
-    let natural = ibm3624::natural(n, digits, rows.enciphered);
-    Comparison::Of(Compared {
-        length: n,
-        pin: pin.digits,
-        natural: natural.digits,
-    })
+    with_natural(f, digits, rows)
 }
 
 // Whether each is 0 to 9.
@@ -169,7 +178,7 @@ fn handed(check: u32, pin: &[u8], natural: &[u8]) -> Comparison
 }
 
 // 81, and the offset's digits.
-fn offset_for(variable: bool, check: u32, p: Compared) -> Reading
+pub fn offset_for(variable: bool, check: u32, p: Compared) -> Reading
     requires { ⌜ Fit p ⌝ }
     ensures { λ r. ⌜ r ≡ readingOf (offsetFor variable check (pairIn p)) ⌝ }
 {
@@ -304,7 +313,7 @@ pub fn differences(
 }
 
 // 81 for the offset's length, then the verdict; 00 is a row of nothing.
-fn verdict_on(variable: bool, check: u32, presented: Pin, p: Compared) -> Row
+pub fn verdict_on(variable: bool, check: u32, presented: Pin, p: Compared) -> Row
     requires { ⌜ Fit p × (presented .digits < 16 ^ presented .length) ⌝ }
     ensures { λ r. ⌜ r ≡ rowOf (verdictOn variable check (digitsOf presented) (pairIn p)) ⌝ }
 {

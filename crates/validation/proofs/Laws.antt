@@ -23,7 +23,10 @@ use Rattle.pins.specs.Answers.{rowOf}
 use Rattle.pins.proofs.Laws.{account-done}
 use Rattle.blocks.specs.Answers.{blockOf}
 use Rattle.blocks.proofs.Laws.{Sixteen, sixteen-nibs}
-use Rattle.validation.specs.Validation.{letterP, letterN, hexEnd, isTemplate, replaced, isWhole, validationRow, validationBlock}
+use Rattle.validation.specs.Validation.{letterP, letterN, hexEnd, isTemplate, replaced, isWhole, isValidation, validationRow, validationBlock}
+use Rattle.validation.specs.Answers.{shapeOf}
+use Rattle.validation.specs.declared.Shape.{Shape}
+use Rattle.validation.specs.declared.Shape.the-variants.{Template, Whole, Neither}
 
 below-append : (m : ℕ) (xs ys : List ℕ) → Below m xs → Below m ys → Below m (xs ++ ys)
 below-append m [] ys b c = c
@@ -48,20 +51,35 @@ whole-sixteen cs e =
     let l = eqb-true (length cs) 17 (and-left (eqb (length cs) 17) (allOf CapitalHex (drop 1 cs)) e) in
     record { long = values-length (drop 1 cs) ∙ length-drop 1 cs ∙ omega arith; nibbles = values-below (drop 1 cs) }
 
+-- what a template's test tells: twelve characters, and the N is one of them
+template-place : (cs : List ℕ) → isTemplate cs ≡ true → (length cs ≡ 12) × (hexEnd cs < 12)
+template-place cs e =
+    let p = hexEnd cs in
+    let rest = allOf CapitalHex (drop (suc p) cs) in
+    let more = eqb (getD cs p 0) letterN && rest in
+    let l = eqb-true (length cs) 12 (and-left (eqb (length cs) 12) more e) in
+    let n = eqb-true (getD cs p 0) letterN (and-left (eqb (getD cs p 0) letterN) rest (and-right (eqb (length cs) 12) more e)) in
+    let h = here cs p 0x4D n in
+    (l, omega arith)
+
+replaced-long : (ds cs : List ℕ) → length ds ≡ 12 → isTemplate cs ≡ true → length (replaced ds cs) ≡ 16
+replaced-long ds cs d e =
+    let p = hexEnd cs in
+    let front = map valueOf (take p cs) in
+    let back = map valueOf (drop (suc p) cs) in
+    let t = template-place cs e in
+    let f : length front ≡ p = values-length (take p cs) ∙ length-take-le p cs (omega arith) in
+    let k : length back ≡ 12 - suc p = values-length (drop (suc p) cs) ∙ length-drop (suc p) cs ∙ ap (λ (n : ℕ). n - suc p) (t .0) in
+    let m : length (drop 7 ds) ≡ 5 = length-drop 7 ds ∙ omega arith in
+    length-append (front ++ drop 7 ds) back ∙ (let a = length-append front (drop 7 ds) in omega arith)
+
 replaced-sixteen : (ds cs : List ℕ) → length ds ≡ 12 → Below 16 ds → isTemplate cs ≡ true → Sixteen (replaced ds cs)
 replaced-sixteen ds cs d b e =
     let p = hexEnd cs in
     let front = map valueOf (take p cs) in
     let back = map valueOf (drop (suc p) cs) in
-    let more = eqb (getD cs p 0) letterN && allOf CapitalHex (drop (suc p) cs) in
-    let l = eqb-true (length cs) 12 (and-left (eqb (length cs) 12) more e) in
-    let n = eqb-true (getD cs p 0) letterN (and-left (eqb (getD cs p 0) letterN) (allOf CapitalHex (drop (suc p) cs)) (and-right (eqb (length cs) 12) more e)) in
-    let h = here cs p 0x4D n in
-    let f : length front ≡ p = values-length (take p cs) ∙ length-take-le p cs (omega arith) in
-    let k : length back ≡ 12 - suc p = values-length (drop (suc p) cs) ∙ length-drop (suc p) cs ∙ ap (λ (n : ℕ). n - suc p) l in
-    let m : length (drop 7 ds) ≡ 5 = length-drop 7 ds ∙ omega arith in
     record {
-      long = length-append (front ++ drop 7 ds) back ∙ (let a = length-append front (drop 7 ds) in omega arith);
+      long = replaced-long ds cs d e;
       nibbles = below-append 16 (front ++ drop 7 ds) back (below-append 16 front (drop 7 ds) (values-below (take p cs)) (below-drop 16 7 ds b)) (values-below (drop (suc p) cs));
     }
 
@@ -72,6 +90,99 @@ row-sixteen ds cs ns d b = go (eqb (getD cs 0 0) letterP)
     go : (led : Bool) → cond led (unless Field15 (isWhole cs) (map valueOf (drop 1 cs))) (unless Field15 (isTemplate cs) (replaced ds cs)) ≡ done ns → Sixteen ns
     go true e = let p = passed Field15 (isWhole cs) (map valueOf (drop 1 cs)) ns e in rw (← p .1) (whole-sixteen cs (p .0))
     go false e = let p = passed Field15 (isTemplate cs) (replaced ds cs) ns e in rw (← p .1) (replaced-sixteen ds cs d b (p .0))
+
+-- ---- what validation data are
+
+-- whether a shape is that of validation data
+abbrev formed : Shape → Bool
+formed (Template at) = true
+formed Whole = true
+formed Neither = false
+
+formed-valid : (cs : List ℕ) → isValidation cs ≡ formed (shapeOf cs)
+unfolding shapeOf
+formed-valid cs = go (eqb (getD cs 0 0) letterP) (isWhole cs) (isTemplate cs)
+  where
+    go : (led whole template : Bool) → cond led whole template ≡ formed (cond led (cond whole Whole Neither) (cond template (Template (hexEnd cs)) Neither))
+    go true true template = refl
+    go true false template = refl
+    go false whole true = refl
+    go false whole false = refl
+
+-- either of the two shapes is validation data
+pub shape-template : (cs : List ℕ) (at : ℕ) → shapeOf cs ≡ Template at → isValidation cs ≡ true
+shape-template cs at e = formed-valid cs ∙ ap formed e
+
+pub shape-whole : (cs : List ℕ) → shapeOf cs ≡ Whole → isValidation cs ≡ true
+shape-whole cs e = formed-valid cs ∙ ap formed e
+
+-- what has neither shape is malformed, and only that
+pub shape-neither : (cs : List ℕ) → shapeOf cs ≡ Neither → isValidation cs ≡ false
+shape-neither cs e = formed-valid cs ∙ ap formed e
+
+pub malformed-neither : (cs : List ℕ) → isValidation cs ≡ false → shapeOf cs ≡ Neither
+malformed-neither cs e = go (shapeOf cs) (sym (formed-valid cs) ∙ e)
+  where
+    go : (s : Shape) → formed s ≡ false → s ≡ Neither
+    go (Template at) h = absurd (let z : _≡_ {A = ℕ} 0 1 = cc in omega arith)
+    go Whole h = absurd (let z : _≡_ {A = ℕ} 0 1 = cc in omega arith)
+    go Neither h = refl
+
+-- what each shape tells of the characters' number
+abbrev Measured : List ℕ → Shape → Type 0
+Measured cs (Template at) = (length cs ≡ 12) × (at < 12)
+Measured cs Whole = length cs ≡ 17
+Measured cs Neither = Unit {0}
+
+measured : (cs : List ℕ) → Measured cs (shapeOf cs)
+unfolding shapeOf
+measured cs = go (eqb (getD cs 0 0) letterP) (isWhole cs) (isTemplate cs) refl refl
+  where
+    go : (led whole template : Bool) → isWhole cs ≡ whole → isTemplate cs ≡ template → Measured cs (cond led (cond whole Whole Neither) (cond template (Template (hexEnd cs)) Neither))
+    go true true template w t = eqb-true (length cs) 17 (and-left (eqb (length cs) 17) (allOf CapitalHex (drop 1 cs)) w)
+    go true false template w t = tt
+    go false whole true w t = template-place cs t
+    go false whole false w t = tt
+
+-- the N stands among twelve characters
+pub shape-twelve : (cs : List ℕ) (at : ℕ) → shapeOf cs ≡ Template at → (length cs ≡ 12) × (at < 12)
+shape-twelve cs at e = subst (Measured cs) e (measured cs)
+
+-- the P stands before sixteen
+pub shape-seventeen : (cs : List ℕ) → shapeOf cs ≡ Whole → length cs ≡ 17
+shape-seventeen cs e = subst (Measured cs) e (measured cs)
+
+-- ---- the row that validation data stand for
+
+-- the row that each shape gives
+abbrev pub shaped : List ℕ → List ℕ → Shape → Outcome (List ℕ)
+shaped account cs (Template at) = done (map valueOf (take at cs) ++ drop 7 account ++ map valueOf (drop (suc at) cs))
+shaped account cs Whole = done (map valueOf (drop 1 cs))
+shaped account cs Neither = refused Field15
+
+pub row-shaped : (account cs : List ℕ) → validationRow account cs ≡ shaped account cs (shapeOf cs)
+unfolding validationRow shapeOf
+row-shaped account cs = go (eqb (getD cs 0 0) letterP) (isWhole cs) (isTemplate cs)
+  where
+    go :
+        (led whole template : Bool)
+        → cond led (unless Field15 whole (map valueOf (drop 1 cs))) (unless Field15 template (replaced account cs))
+        ≡ shaped account cs (cond led (cond whole Whole Neither) (cond template (Template (hexEnd cs)) Neither))
+    go true true template = refl
+    go true false template = refl
+    go false whole true = refl
+    go false whole false = refl
+
+-- validation data have a row, of sixteen for an account of twelve
+pub row-of-valid : (account cs : List ℕ) → isValidation cs ≡ true → (ns : List ℕ) × (validationRow account cs ≡ done ns) × (length account ≡ 12 → length ns ≡ 16)
+unfolding validationRow
+row-of-valid account cs = go (eqb (getD cs 0 0) letterP)
+  where
+    go :
+        (led : Bool) → cond led (isWhole cs) (isTemplate cs) ≡ true
+        → (ns : List ℕ) × (cond led (unless Field15 (isWhole cs) (map valueOf (drop 1 cs))) (unless Field15 (isTemplate cs) (replaced account cs)) ≡ done ns) × (length account ≡ 12 → length ns ≡ 16)
+    go true e = (map valueOf (drop 1 cs), rw e, λ d. whole-sixteen cs e .long)
+    go false e = (replaced account cs, rw e, λ d. replaced-long account cs d e)
 
 -- ---- the call
 
@@ -99,10 +210,10 @@ pub behind : (k : ℕ) (s : List ℕ) → take (length s - k) (drop k s) ≡ dro
 behind k s = take-all (length s - k) (drop k s) (rw (length-drop k s) (omega arith))
 
 -- nothing there is neither
-pub row-none : (ds cs : List ℕ) → length cs ≡ 0 → validationRow ds cs ≡ refused Field15
-unfolding validationRow
-row-none ds [] e = refl
-row-none ds (c ∷ cs) e = absurd (omega arith)
+pub shape-none : (cs : List ℕ) → length cs ≡ 0 → shapeOf cs ≡ Neither
+unfolding shapeOf
+shape-none [] e = refl
+shape-none (c ∷ cs) e = absurd (omega arith)
 
 -- P and another number of characters
 pub whole-other : (s : List ℕ) → (length s ≡ 17 → ⊥) → isWhole s ≡ false

@@ -1,1 +1,2 @@
 pub mod Validation
+pub mod Answers

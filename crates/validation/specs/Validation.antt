@@ -34,6 +34,10 @@ replaced account cs = map valueOf (take (hexEnd cs) cs) ++ drop 7 account ++ map
 abbrev pub isWhole : List ℕ → Bool
 isWhole cs = eqb (length cs) 17 && allOf CapitalHex (drop 1 cs)
 
+-- where this fails, "validation data malformed"
+abbrev pub isValidation : List ℕ → Bool
+isValidation cs = cond (eqb (getD cs 0 0) letterP) (isWhole cs) (isTemplate cs)
+
 -- the sixteen nibbles that validation data stand for, or 15
 unfoldable pub validationRow : List ℕ → List ℕ → Outcome (List ℕ)
 validationRow account cs =

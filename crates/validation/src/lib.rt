@@ -1,19 +1,27 @@
 // Validation data, and the block that the key box enciphers to make a natural PIN.
 ghost use mathlib.Core.Path.{_≡_};
 ghost use mathlib.Core.List.{_++_, map};
+ghost use mathlib.Core.Bool.{cond};
 ghost use Prim.Native.Nat.{suc, _<_};
 ghost use lib.ListN.{length, take, drop};
 ghost use Rattle.nibbles.specs.Nibbles.{word, row};
 ghost use Rattle.alphabet.specs.Alphabet.{valueOf};
-ghost use Rattle.numbers.specs.Numbers.{unless};
 ghost use Rattle.numbers.specs.Promise.{Does, quietly};
 ghost use Rattle.pins.specs.Answers.{rowOf};
 ghost use Rattle.blocks.specs.Answers.{blockOf};
-ghost use Rattle.validation.specs.Validation.{isTemplate, replaced, isWhole, validationRow, validationBlock};
+ghost use Rattle.validation.specs.Validation.{hexEnd, isTemplate, isWhole, validationRow, validationBlock};
+ghost use Rattle.validation.specs.Answers.{shapeOf};
 use alphabet::Class;
 use numbers::Refusal;
 use numbers::Reply;
 use pins::Row;
+
+// What validation data are: characters with an N, and the N's place among them, or P and a whole row.
+pub enum Shape {
+    Template(usize),
+    Whole,
+    Neither,
+}
 
 // The values of twelve characters, with the last five account digits for the one at a place.
 fn with_account(account: u64, s: &[u8], at: usize) -> u64
@@ -28,49 +36,62 @@ fn with_account(account: u64, s: &[u8], at: usize) -> u64
 }
 
 // Twelve characters, eleven hex and exactly one N.
-fn template(account: u64, s: &[u8]) -> Row
-    ensures { λ r. ⌜ r ≡ rowOf (unless Refusal.Field15 (isTemplate (now (s .entry))) (replaced (row 12 account) (now (s .entry)))) ⌝ }
+fn template(s: &[u8]) -> Shape
+    ensures { λ r. ⌜ r ≡ cond (isTemplate (now (s .entry))) (Shape.Template (hexEnd (now (s .entry)))) Shape.Neither ⌝ }
 {
     if s.len() != 12 {
-        return Row::Refused(Refusal::Field15);
+        return Shape::Neither;
     }
     let at = pins::class_end(Class::CapitalHex, s);
     if 12 <= at {
-        return Row::Refused(Refusal::Field15);
+        return Shape::Neither;
     }
     if s[at] != b'N' {
-        return Row::Refused(Refusal::Field15);
+        return Shape::Neither;
     }
     if !alphabet::all_of(Class::CapitalHex, s, at + 1, 12) {
-        return Row::Refused(Refusal::Field15);
+        return Shape::Neither;
     }
-    Row::Held(with_account(account, s, at))
+    Shape::Template(at)
 }
 
 // P and sixteen hex characters.
-fn whole(s: &[u8]) -> Row
-    ensures { λ r. ⌜ r ≡ rowOf (unless Refusal.Field15 (isWhole (now (s .entry))) (map valueOf (drop 1 (now (s .entry))))) ⌝ }
+fn whole(s: &[u8]) -> Shape
+    ensures { λ r. ⌜ r ≡ cond (isWhole (now (s .entry))) Shape.Whole Shape.Neither ⌝ }
 {
     if s.len() != 17 {
-        return Row::Refused(Refusal::Field15);
+        return Shape::Neither;
     }
     if !alphabet::all_of(Class::CapitalHex, s, 1, s.len()) {
-        return Row::Refused(Refusal::Field15);
+        return Shape::Neither;
     }
-    Row::Held(pins::values(&s[1..]))
+    Shape::Whole
+}
+
+impl Shape {
+    // The one place where validation data are judged.
+    pub fn of(characters: &[u8]) -> Shape
+        ensures { λ r. ⌜ r ≡ shapeOf (now (characters .entry)) ⌝ }
+    {
+        if characters.len() == 0 {
+            return Shape::Neither;
+        }
+        if characters[0] == b'P' {
+            return whole(characters);
+        }
+        template(characters)
+    }
 }
 
 // The sixteen nibbles that validation data stand for, or 15. The account's twelve digits are a row in a word.
 pub fn validation_row(account: u64, validation: &[u8]) -> Row
     ensures { λ r. ⌜ r ≡ rowOf (validationRow (row 12 account) (now (validation .entry))) ⌝ }
 {
-    if validation.len() == 0 {
-        return Row::Refused(Refusal::Field15);
+    match Shape::of(validation) {
+        Shape::Template(at) => Row::Held(with_account(account, validation, at)),
+        Shape::Whole => Row::Held(pins::values(&validation[1..])),
+        Shape::Neither => Row::Refused(Refusal::Field15),
     }
-    if validation[0] == b'P' {
-        return whole(validation);
-    }
-    template(account, validation)
 }
 
 // Judges the call that makes the validation block: 901, 15 for account and validation data.

@@ -1,15 +1,10 @@
 -- `validation::template` meets its contract.
 -- Assumes nothing.
-use Prim.Native.Nat.{ℕ, suc}
-use mathlib.Core.List.{_++_, map}
 use mathlib.Core.Path.{ap, sym, _∙_}
-use lib.ListN.{take, drop}
 use borrow.Author.Tests.{ne-eqb, not-true, not-false}
 use borrow.Author.Needs.{needs}
 use Rattle.validation.proofs.Laws.{template-end, template-other, template-rest}
-use Rattle.pins.specs.declared.Row.the-variants.{Held}
-use Rattle.alphabet.specs.Alphabet.{valueOf}
-use Rattle.nibbles.specs.Nibbles.{word, row}
+use Rattle.validation.specs.declared.Shape.the-variants.{Template}
 use Rattle.validation.proofs.template.Statement.{statement}
 use Rattle.validation.proofs.template.Tie as tie
 
@@ -44,17 +39,12 @@ returns-4 c =
     let rest = template-rest s (c .before .before .before .before .before .class-end .result) (c .before .before .before .before .before .class-end .ensures) (c .before .before .before .before .before .before .if1 .left) (c .before .before .if3 .left) in
     rw (rest ∙ sym (c .before .all-of .ensures) ∙ not-true _ (c .if4 .taken))
 
-with-account-requires : tie.Need-with-account-requires
-with-account-requires c κs = search needs
-
 returns-5 : tie.Need-returns-5
 returns-5 c =
-    let a = c .before .before .before .before .before .before .before .before .before .args in
-    let s = a .s .now in
-    let e = c .before .before .before .before .before .before .class-end .ensures in
-    let rest = template-rest s (c .before .before .before .before .before .before .class-end .result) e (c .before .before .before .before .before .before .before .if1 .left) (c .before .before .before .if3 .left) in
-    rw (rest ∙ sym (c .before .before .all-of .ensures) ∙ not-false _ (c .before .if4 .left))
-    (ap Held (c .with-account .ensures ∙ ap (λ (p : ℕ). word (map valueOf (take p s) ++ drop 7 (row 12 (a .account)) ++ map valueOf (drop (suc p) s))) e))
+    let s = c .before .before .before .before .before .before .before .before .args .s .now in
+    let e = c .before .before .before .before .before .class-end .ensures in
+    let rest = template-rest s (c .before .before .before .before .before .class-end .result) e (c .before .before .before .before .before .before .if1 .left) (c .before .before .if3 .left) in
+    rw (rest ∙ sym (c .before .all-of .ensures) ∙ not-false _ (c .if4 .left)) (ap Template e)
 
 pub template-spec : {M : Type 1} → statement M
 template-spec =
@@ -68,5 +58,4 @@ template-spec =
     add-all-of
     all-of-requires
     returns-4
-    with-account-requires
     returns-5)

@@ -1,36 +1,83 @@
 -- `validation::validation_row` meets its contract.
 -- Assumes nothing.
-use borrow.Author.Tests.{eq-eqb, ne-eqb}
+use Prim.Native.Nat.{ℕ}
+use native.Mathlib.Omega.{arith}
+use mathlib.Core.List.{List, map}
+use mathlib.Core.Path.{ap, sym, _∙_}
 use borrow.Author.Needs.{needs}
-use Rattle.validation.proofs.Laws.{row-none}
-use Rattle.validation.specs.Validation.{validationRow}
-use Rattle.nibbles.specs.Nibbles.{row}
+use Rattle.validation.proofs.Laws.{behind, shape-twelve, shape-seventeen, row-shaped}
+use Rattle.pins.specs.declared.Row.the-variants.{Held}
+use Rattle.alphabet.specs.Alphabet.{valueOf}
+use Rattle.nibbles.specs.Nibbles.{row, word}
 use Rattle.validation.proofs.validation_row.Statement.{statement}
 use Rattle.validation.proofs.validation_row.Tie as tie
 
+of-requires : tie.Need-of-requires
+of-requires c κs = search needs
+
+enum-known-at : tie.Need-enum-known-at
+enum-known-at c = search needs
+
+with-account-requires : tie.Need-with-account-requires
+with-account-requires c κs =
+    shape-twelve (c .before .before .before .before .before .args .validation .now) _ (sym (c .before .before .before .of .ensures) ∙ c .before .at .given .1)
+
+enum-told : tie.Need-enum-told
+enum-told c = search needs
+
+sub-values : tie.Need-sub-values
+sub-values c =
+    let long = shape-seventeen (c .before .before .before .before .args .validation .now) (sym (c .before .before .of .ensures) ∙ c .enum-told .given .1) in
+    omega arith
+
+part-values-start : tie.Need-part-values-start
+part-values-start c =
+    let long = shape-seventeen (c .before .before .before .before .args .validation .now) (sym (c .before .before .of .ensures) ∙ c .enum-told .given .1) in
+    omega arith
+
+part-values-end : tie.Need-part-values-end
+part-values-end c = search needs
+
+values-requires : tie.Need-values-requires
+values-requires c κs =
+    let long = shape-seventeen (c .before .before .before .before .before .args .validation .now) (sym (c .before .before .before .of .ensures) ∙ c .before .enum-told .given .1) in
+    search needs
+
+enum-told-2 : tie.Need-enum-told-2
+enum-told-2 c = search needs
+
 returns : tie.Need-returns
 returns c =
-    let a = c .before .before .args in
-    rw (row-none (row 12 (a .account)) (a .validation .now) (c .if1 .taken))
-
-shared-slice-read-if2 : tie.Need-shared-slice-read-if2
-shared-slice-read-if2 c = search needs
-
-whole-requires : tie.Need-whole-requires
-whole-requires c κs = search needs
+    let a = c .before .before .before .before .before .before .args in
+    let e = sym (c .before .before .before .before .of .ensures) ∙ c .before .before .at .given .1 in
+    rw (row-shaped (row 12 (a .account)) (a .validation .now), e) (ap Held (c .with-account .ensures))
 
 returns-2 : tie.Need-returns-2
-unfolding validationRow
-returns-2 c = rw (eq-eqb _ _ (c .before .if2 .taken)) (c .whole .ensures)
-
-template-requires : tie.Need-template-requires
-template-requires c κs = search needs
+returns-2 c =
+    let a = c .before .before .before .before .before .before .args in
+    let e = sym (c .before .before .before .before .of .ensures) ∙ c .before .before .enum-told .given .1 in
+    rw (row-shaped (row 12 (a .account)) (a .validation .now), e)
+    (ap Held (c .values .ensures ∙ ap (λ (cs : List ℕ). word (map valueOf cs)) (behind 1 (a .validation .now))))
 
 returns-3 : tie.Need-returns-3
-unfolding validationRow
-returns-3 c = rw (ne-eqb _ _ (c .before .if2 .left)) (c .template .ensures)
+returns-3 c =
+    let a = c .before .before .before .before .args in
+    let e = sym (c .before .before .of .ensures) ∙ c .enum-told2 .given .1 in
+    rw (row-shaped (row 12 (a .account)) (a .validation .now), e)
 
 pub validation-row-spec : {M : Type 1} → statement M
 validation-row-spec =
     tie.close
-    (tie.spec returns shared-slice-read-if2 whole-requires returns-2 template-requires returns-3)
+    (tie.spec
+    of-requires
+    enum-known-at
+    with-account-requires
+    enum-told
+    sub-values
+    part-values-start
+    part-values-end
+    values-requires
+    enum-told-2
+    returns
+    returns-2
+    returns-3)
