@@ -1,0 +1,89 @@
+-- The fields of a command. A reader looks at the characters ahead of the cursor, and answers with the field's value and how many of
+-- them the field has, or with a refusal.
+use Prim.Native.Nat.{ℕ, _+_, _-_, _*_}
+use mathlib.Core.List.{List, [], _∷_}
+use mathlib.Core.Bool.{Bool, cond}
+use lib.ListN.{length, getD, take, drop}
+use lib.Dec.{leb}
+use Rattle.nibbles.specs.Nibbles.{within}
+use Rattle.alphabet.specs.Alphabet.{allOf, begins, valueOf}
+use Rattle.alphabet.specs.declared.Class.{Class}
+use Rattle.alphabet.specs.declared.Class.the-variants.{Digit, Printable}
+use Rattle.numbers.specs.Numbers.{Outcome, done, refused, andThen, unless}
+use Rattle.numbers.specs.declared.Refusal.{Refusal}
+use Rattle.numbers.specs.declared.Refusal.the-variants.{Field15}
+use Rattle.fields.specs.declared.Fault.{Fault}
+
+-- ---- the kinds of fields
+
+-- what a reader finds: the field's value, and how many characters it took
+abbrev pub Found : Type 0 → Type 0
+Found A = Outcome (A × ℕ)
+
+-- n characters of a class. "Inside a field a missing character is judged before a wrong one." Its value is n
+unfoldable pub run : Class → Refusal → Refusal → ℕ → List ℕ → Found ℕ
+run class missing wrong n cs =
+    andThen (unless missing (leb n (length cs)) n)
+    (λ _. unless wrong (allOf class (take n cs)) (n, n))
+
+-- the number that the two digits at a place make
+abbrev pub twoDigits : ℕ → List ℕ → ℕ
+twoDigits i cs = valueOf (getD cs i 0) * 10 + valueOf (getD cs (i + 1) 0)
+
+-- a number of two digits, from low to high
+unfoldable pub number : ℕ → ℕ → Refusal → List ℕ → Found ℕ
+number low high wrong cs =
+    andThen (run Digit wrong wrong 2 cs)
+    (λ _. unless wrong (within low high (twoDigits 0 cs)) (twoDigits 0 cs, 2))
+
+-- an optional field is there where its mark is
+abbrev pub marked : ℕ → List ℕ → Bool
+marked mark cs = begins (mark ∷ []) cs
+
+-- what was found behind n characters, as found before them
+abbrev pub behind : {A : Type 0} → ℕ → Found A → Found A
+behind n (done r) = done (r .0, n + r .1)
+behind n (refused q) = refused q
+
+-- "Optional byte 19 hex and a trailer of 0 to 32 printable characters": at most 32, and what is behind them is left over. Its value is
+-- how many there are behind the mark
+abbrev pub trailerMark : ℕ
+trailerMark = 0x19
+
+abbrev pub longestTrailer : ℕ
+longestTrailer = 32
+
+abbrev pub atMost : ℕ → ℕ → ℕ
+atMost high n = cond (leb n high) n high
+
+unfoldable pub trailer : List ℕ → Found ℕ
+trailer cs =
+    cond (marked trailerMark cs)
+    (behind 1 (run Printable Field15 Field15 (atMost longestTrailer (length (drop 1 cs))) (drop 1 cs)))
+    (done (0, 0))
+
+-- ---- fields one after the other
+
+-- what reading comes to: what was read and the place where the next field begins, or the fault that decides
+pub data Stage (A : Type 0) : Type 0 where
+  read : A → ℕ → Stage A
+  faulty : Fault → Stage A
+
+-- "the first fault deciding": a refusal carries the field's number and the place where the field begins
+abbrev pub fielded : {A B : Type 0} → ℕ → ℕ → Found A → (A → ℕ → Stage B) → Stage B
+fielded number at (done r) next = next (r .0) (at + r .1)
+fielded number at (refused q) next = faulty (record { refusal = q; field = number; place = at })
+
+-- the field that begins at a place, and what comes next
+abbrev pub field : {A B : Type 0} → ℕ → (List ℕ → Found A) → List ℕ → ℕ → (A → ℕ → Stage B) → Stage B
+field number reader s at next = fielded number at (reader (drop at s)) next
+
+-- a stage, and what comes next
+abbrev pub onward : {A B : Type 0} → Stage A → (A → ℕ → Stage B) → Stage B
+onward (read a at) next = next a at
+onward (faulty f) next = faulty f
+
+-- what the host meets of it: the refusal's number, not the place
+abbrev pub outcome : {A : Type 0} → Stage A → Outcome A
+outcome (read a at) = done a
+outcome (faulty f) = refused (f .refusal)
