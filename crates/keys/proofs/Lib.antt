@@ -1,0 +1,4 @@
+pub mod Uses
+pub mod Steady
+pub mod Laws
+pub mod SteadyKeys
