@@ -1,0 +1,325 @@
+-- What the reader of the weak list answers, what the code's answers tell of it, and the laws of its search.
+-- Assumes nothing.
+use Prim.Native.Nat.{ℕ, zero, suc, _+_, _-_, _*_, _≤_, _<_}
+use native.Mathlib.Nat.{add-zero, add-assoc, suc-mul, mul-le-mul-right}
+use native.Mathlib.Numerals.{add-one}
+use native.Mathlib.Omega.{arith}
+use mathlib.Core.Path.{_≡_, refl, sym, ap, _∙_}
+use mathlib.Core.List.{List, _∷_, map}
+use mathlib.Core.Bool.{Bool, true, false, cond}
+use lib.ListN.{length, getD, take, drop, length-map, length-drop, drop-of-length-le}
+use lib.Seq.{length-take-le, drop-cons, drop-drop, getD-take, getD-drop}
+use lib.Dec.{eqb}
+use borrow.Author.Tests.{eq-eqb, ne-eqb, eqb-true, eqb-false}
+use Rattle.nibbles.specs.Nibbles.{same}
+use Rattle.nibbles.proofs.Laws.{map-at, same-false}
+use Rattle.alphabet.specs.Alphabet.{valueOf}
+use Rattle.alphabet.specs.declared.Class.the-variants.{Digit}
+use Rattle.numbers.specs.Numbers.{done, refused, andThen}
+use Rattle.numbers.proofs.Laws.{then-done, value-of}
+use Rattle.numbers.specs.declared.Refusal.{Refusal}
+use Rattle.numbers.specs.declared.Refusal.the-variants.{WeakList03, Field15}
+use Rattle.fields.specs.Fields.{Found, run, number, marked, Stage, faulty, fielded, field}
+use Rattle.fields.specs.Answers.{cursorAt, valueFrom, markFrom}
+use Rattle.fields.specs.declared.Cursor.{Cursor}
+use Rattle.fields.specs.declared.Value.the-variants as value
+use Rattle.fields.specs.declared.Mark.the-variants.{Behind, Absent}
+use Rattle.fields.proofs.Laws.{run-whole, run-found, run-refuses, number-found, number-refuses, number-read, mark-there, mark-absent, value-of-found, value-of-bad}
+use Rattle.weak.specs.Weak.{noneAt, listed, weakField, entries, isOn}
+use Rattle.weak.specs.Answers.{weakFrom, Lies}
+use Rattle.weak.specs.declared.Weak.{Weak}
+use Rattle.weak.specs.declared.WeakRead.the-variants.{Got, Bad}
+
+-- ---- behind the count
+
+-- so many weak PINs of so many digits each, five characters behind the beginning of the field
+abbrev pub listAt : ℕ → ℕ → ℕ → Weak
+listAt at count each = record { count = count; length = each; list = at + 5 }
+
+module _ (at count : ℕ) (cs : List ℕ) where
+  -- no weak PINs: neither length nor list
+  pub listed-none : count ≡ 0 → listed at count cs ≡ done (noneAt at, 3)
+  unfolding listed
+  listed-none e = rw (eq-eqb count 0 e)
+
+  -- the length is missing or out of its limits
+  pub listed-unmeasured : (count ≡ 0 → ⊥) → (q : Refusal) → number 4 12 Field15 cs ≡ refused q → listed at count cs ≡ refused q
+  unfolding listed
+  listed-unmeasured some q e = rw (ne-eqb count 0 some, e)
+
+  -- the list is too short, or has what is no digit
+  pub listed-short : (count ≡ 0 → ⊥) → (each n : ℕ) (q : Refusal) → number 4 12 Field15 cs ≡ done (each, n)
+      → run Digit WeakList03 WeakList03 (count * each) (drop 2 cs) ≡ refused q → listed at count cs ≡ refused q
+  unfolding listed
+  listed-short some each n q e d = rw (ne-eqb count 0 some, e, d)
+
+  -- the list is there
+  pub listed-whole : (count ≡ 0 → ⊥) → (each n v m : ℕ) → number 4 12 Field15 cs ≡ done (each, n) → run Digit WeakList03 WeakList03 (count * each) (drop 2 cs) ≡ done (v, m)
+      → listed at count cs ≡ done (listAt at count each, 5 + m)
+  unfolding listed
+  listed-whole some each n v m e d = rw (ne-eqb count 0 some, e, d)
+
+-- what the code's answers tell of it, where the count ends at a place, three characters behind the beginning of the field
+module _ (s : List ℕ) (start count at : ℕ) (place : at ≡ start + 3) (some : count ≡ 0 → ⊥) where
+  -- it found no length
+  pub behind-unmeasured : (q : Refusal) → value.Bad q ≡ valueFrom at (number 4 12 Field15 (drop at s)) → Bad Field15 ≡ weakFrom start (listed start count (drop at s))
+  behind-unmeasured q e =
+      let bad = value-of-bad at (number 4 12 Field15 (drop at s)) q e in
+      rw (listed-unmeasured start count (drop at s) some q bad, number-refuses 4 12 Field15 (drop at s) q bad)
+
+  -- the list stands behind the length
+  behind-place : (each : ℕ) (list : Cursor) → value.Got each list ≡ valueFrom at (number 4 12 Field15 (drop at s)) → list .at ≡ start + 5
+  behind-place each list e = ap (λ (c : Cursor). c .at) (number-read s at each list 4 12 Field15 e .1) ∙ omega arith
+
+  -- so do the characters that it reads
+  behind-list : (each : ℕ) (list : Cursor) → value.Got each list ≡ valueFrom at (number 4 12 Field15 (drop at s)) → drop 2 (drop at s) ≡ drop (list .at) s
+  behind-list each list e = drop-drop 2 at s ∙ ap (λ (c : Cursor). drop (c .at) s) (sym (number-read s at each list 4 12 Field15 e .1))
+
+  -- it found no list
+  pub behind-short : (each : ℕ) (list : Cursor) (q : Refusal) → value.Got each list ≡ valueFrom at (number 4 12 Field15 (drop at s))
+      → value.Bad q ≡ valueFrom (list .at) (run Digit WeakList03 WeakList03 (count * each) (drop (list .at) s)) → Bad WeakList03 ≡ weakFrom start (listed start count (drop at s))
+  behind-short each list q e d =
+      let got = value-of-found at (number 4 12 Field15 (drop at s)) each list e in
+      let bad = value-of-bad (list .at) (run Digit WeakList03 WeakList03 (count * each) (drop (list .at) s)) q d in
+      rw (listed-short start count (drop at s) some each (got .0) q (got .1) (rw (behind-list each list e) bad), run-refuses Digit WeakList03 (count * each) (drop (list .at) s) q bad)
+
+  -- it found the list
+  pub behind-whole : (each : ℕ) (list : Cursor) (v : ℕ) (next : Cursor) → value.Got each list ≡ valueFrom at (number 4 12 Field15 (drop at s))
+      → value.Got v next ≡ valueFrom (list .at) (run Digit WeakList03 WeakList03 (count * each) (drop (list .at) s))
+      → Got (record { count = count; length = each; list = list .at }) next ≡ weakFrom start (listed start count (drop at s))
+  behind-whole each list v next e d =
+      let got = value-of-found at (number 4 12 Field15 (drop at s)) each list e in
+      let found = value-of-found (list .at) (run Digit WeakList03 WeakList03 (count * each) (drop (list .at) s)) v next d in
+      let whole = listed-whole start count (drop at s) some each (got .0) v (found .0) (got .1) (rw (behind-list each list e) (found .1)) in
+      placed (list .at) (found .0) next (behind-place each list e) (found .2) ∙ ap (weakFrom start) (sym whole)
+    where
+      placed : (i m : ℕ) (c : Cursor) → i ≡ start + 5 → c ≡ cursorAt (i + m) → Got (record { count = count; length = each; list = i }) c ≡ Got (listAt start count each) (cursorAt (start + (5 + m)))
+      placed i m c a b = rw (b, a, add-assoc start 5 m)
+
+-- ---- the field
+
+-- what the code's answers tell of it
+module _ (mark at : ℕ) (s : List ℕ) where
+  -- without its mark it is empty
+  pub field-absent : Absent ≡ markFrom at (marked mark (drop at s)) → Got (noneAt at) (cursorAt at) ≡ weakFrom at (weakField mark at (drop at s))
+  unfolding weakField
+  field-absent e = rw (mark-absent at (marked mark (drop at s)) e, add-zero at)
+
+  module _ (digits : Cursor) (there : Behind digits ≡ markFrom at (marked mark (drop at s))) where
+    -- the count stands behind the mark
+    counted-there : drop (digits .at) s ≡ drop 1 (drop at s)
+    counted-there = ap (λ (c : Cursor). drop (c .at) s) (mark-there at (marked mark (drop at s)) digits there .1) ∙ sym (drop-drop 1 at s)
+
+    -- without a count it is refused
+    pub field-uncounted : (q : Refusal) → value.Bad q ≡ valueFrom (digits .at) (number 0 99 WeakList03 (drop (digits .at) s)) → Bad WeakList03 ≡ weakFrom at (weakField mark at (drop at s))
+    unfolding weakField
+    field-uncounted q e =
+        let bad = value-of-bad (digits .at) (number 0 99 WeakList03 (drop (digits .at) s)) q e in
+        rw (mark-there at (marked mark (drop at s)) digits there .0, ← counted-there, bad, number-refuses 0 99 WeakList03 (drop (digits .at) s) q bad)
+
+    -- a count has two digits and ends three characters behind the beginning of the field
+    pub counted-behind : (count : ℕ) (next : Cursor) → value.Got count next ≡ valueFrom (digits .at) (number 0 99 WeakList03 (drop (digits .at) s)) → (count ≤ 99) × (next .at ≡ at + 3)
+    counted-behind count next e =
+        let read = number-read s (digits .at) count next 0 99 WeakList03 e in
+        let first = ap (λ (c : Cursor). c .at) (mark-there at (marked mark (drop at s)) digits there .1) in
+        (read .4, ap (λ (c : Cursor). c .at) (read .1) ∙ omega arith)
+
+    -- with one the rest of it decides
+    pub field-counted : (count : ℕ) (next : Cursor) → value.Got count next ≡ valueFrom (digits .at) (number 0 99 WeakList03 (drop (digits .at) s))
+        → weakField mark at (drop at s) ≡ listed at count (drop (next .at) s)
+    unfolding weakField
+    field-counted count next e =
+        let got = value-of-found (digits .at) (number 0 99 WeakList03 (drop (digits .at) s)) count next e in
+        rw (mark-there at (marked mark (drop at s)) digits there .0, ← counted-there, got .1, drop-drop 3 at s, counted-behind count next e .1)
+
+-- ---- behind the code's answer
+
+-- a weak list was found, so many characters ago
+pub weak-found : (at : ℕ) (o : Found Weak) (w : Weak) (c : Cursor) → Got w c ≡ weakFrom at o → (n : ℕ) × (o ≡ done (w, n)) × (c ≡ cursorAt (at + n))
+weak-found at (done (v, n)) w c e = (n, cc, cc)
+weak-found at (refused q) w c e = absurd (let z : _≡_ {A = ℕ} 0 1 = cc in omega arith)
+
+-- none was
+pub weak-bad : (at : ℕ) (o : Found Weak) (q : Refusal) → Bad q ≡ weakFrom at o → o ≡ refused q
+weak-bad at (done r) q e = absurd (let z : _≡_ {A = ℕ} 0 1 = cc in omega arith)
+weak-bad at (refused p) q e = cc
+
+module _ {B : Type 0} (k at : ℕ) (next : Weak → ℕ → Stage B) where
+  -- the same of any outcome
+  fielded-found : (o : Found Weak) (w : Weak) (c : Cursor) → Got w c ≡ weakFrom at o → fielded k at o next ≡ next w (c .at)
+  fielded-found (done (v, n)) w c e = let a : v ≡ w = cc in let b : cursorAt (at + n) ≡ c = cc in rw (a, ← b)
+  fielded-found (refused q) w c e = absurd (let z : _≡_ {A = ℕ} 0 1 = cc in omega arith)
+
+  -- where the code found the field, the next one begins at its cursor
+  pub weak-field-found : (reader : List ℕ → Found Weak) (s : List ℕ) (w : Weak) (c : Cursor) → Got w c ≡ weakFrom at (reader (drop at s)) → field k reader s at next ≡ next w (c .at)
+  weak-field-found reader s w c e = fielded-found (reader (drop at s)) w c e
+
+  -- where it did not, that is the fault
+  pub weak-field-bad : (reader : List ℕ → Found Weak) (s : List ℕ) (q : Refusal) → Bad q ≡ weakFrom at (reader (drop at s))
+      → field k reader s at next ≡ faulty (record { refusal = q; field = k; place = at })
+  weak-field-bad reader s q e = rw (weak-bad at (reader (drop at s)) q e)
+
+-- ---- what a field that was found tells of the characters ahead
+
+-- the three ways in which it is found: without its mark, with the count 00, with a list
+pub data Tells (mark at : ℕ) (cs : List ℕ) (w : Weak) (n : ℕ) : Type 0 where
+  unmarked : marked mark cs ≡ false → w ≡ noneAt at → n ≡ 0 → Tells mark at cs w n
+  empty : marked mark cs ≡ true → number 0 99 WeakList03 (drop 1 cs) ≡ done (0, 2) → w ≡ noneAt at → n ≡ 3 → Tells mark at cs w n
+  filled : (count each : ℕ) → marked mark cs ≡ true → number 0 99 WeakList03 (drop 1 cs) ≡ done (count, 2) → (count ≡ 0 → ⊥) → number 4 12 Field15 (drop 3 cs) ≡ done (each, 2)
+      → run Digit WeakList03 WeakList03 (count * each) (drop 5 cs) ≡ done (count * each, count * each)
+      → w ≡ listAt at count each → n ≡ 5 + count * each → Tells mark at cs w n
+
+module _ (mark at : ℕ) (cs : List ℕ) (w : Weak) (n : ℕ) where
+  -- the parts of what was found
+  found-weak : (v : Weak) (m : ℕ) → _≡_ {A = Found Weak} (done (v, m)) (done (w, n)) → w ≡ v
+  found-weak v m e = sym (ap (λ (r : Weak × ℕ). r .0) (value-of e))
+
+  found-count : (v : Weak) (m : ℕ) → _≡_ {A = Found Weak} (done (v, m)) (done (w, n)) → n ≡ m
+  found-count v m e = sym (ap (λ (r : Weak × ℕ). r .1) (value-of e))
+
+  found-both : (v : Weak) (m : ℕ) → w ≡ v → n ≡ m → _≡_ {A = Found Weak} (done (v, m)) (done (w, n))
+  found-both v m e l = rw (e, l)
+
+  -- a number has two characters
+  two : (low high : ℕ) (q : Refusal) (ds : List ℕ) (r : ℕ × ℕ) → number low high q ds ≡ done r → number low high q ds ≡ done (r .0, 2)
+  two low high q ds r e = e ∙ ap (λ (m : ℕ). done (r .0, m)) (number-found low high q ds (r .0) (r .1) e .0)
+
+  -- a field that was found was found in one of them
+  pub weak-tells : weakField mark at cs ≡ done (w, n) → Tells mark at cs w n
+  unfolding weakField listed
+  weak-tells e = go (marked mark cs) refl e
+    where
+      digits : ℕ → ℕ → Found ℕ
+      digits count each = run Digit WeakList03 WeakList03 (count * each) (drop 2 (drop 3 cs))
+
+      measured : ℕ → ℕ × ℕ → Found Weak
+      measured count each = andThen (digits count (each .0)) (λ r. done (listAt at count (each .0), 5 + r .1))
+
+      counted : (count : ℕ) → marked mark cs ≡ true → number 0 99 WeakList03 (drop 1 cs) ≡ done (count, 2) → (b : Bool) → eqb count 0 ≡ b
+          → cond {A = Found Weak} b (done (noneAt at, 3)) (andThen (number 4 12 Field15 (drop 3 cs)) (measured count)) ≡ done (w, n) → Tells mark at cs w n
+      counted count h c true z e = empty h (c ∙ ap (λ (v : ℕ). done (v, 2)) (eqb-true count 0 z)) (found-weak (noneAt at) 3 e) (found-count (noneAt at) 3 e)
+      counted count h c false z e =
+          let t = then-done (number 4 12 Field15 (drop 3 cs)) (measured count) (w, n) e in
+          let each = t .0 .0 in
+          let r = then-done (digits count each) (λ (r : ℕ × ℕ). done (listAt at count each, 5 + r .1)) (w, n) (t .2) in
+          let f = run-found Digit WeakList03 WeakList03 (count * each) (drop 2 (drop 3 cs)) (r .0 .0) (r .0 .1) (r .1) in
+          filled count each h c (eqb-false count 0 z) (two 4 12 Field15 (drop 3 cs) (t .0) (t .1))
+          (run-whole Digit WeakList03 WeakList03 (count * each) (drop 5 cs) (rw (drop-drop 2 3 cs) at (f .2)) (rw (drop-drop 2 3 cs) at (f .3)))
+          (found-weak (listAt at count each) (5 + r .0 .1) (r .2))
+          (found-count (listAt at count each) (5 + r .0 .1) (r .2) ∙ ap (λ (m : ℕ). 5 + m) (f .1))
+
+      go : (b : Bool) → marked mark cs ≡ b
+          → cond {A = Found Weak} b (andThen (number 0 99 WeakList03 (drop 1 cs)) (λ count. listed at (count .0) (drop 3 cs))) (done (noneAt at, 0)) ≡ done (w, n) → Tells mark at cs w n
+      go false h e = unmarked h (found-weak (noneAt at) 0 e) (found-count (noneAt at) 0 e)
+      go true h e =
+          let t = then-done (number 0 99 WeakList03 (drop 1 cs)) (λ (count : ℕ × ℕ). listed at (count .0) (drop 3 cs)) (w, n) e in
+          counted (t .0 .0) h (two 0 99 WeakList03 (drop 1 cs) (t .0) (t .1)) (eqb (t .0 .0) 0) refl (t .2)
+
+  -- and the field is found in each of them
+  pub tells-weak : Tells mark at cs w n → weakField mark at cs ≡ done (w, n)
+  unfolding weakField
+  tells-weak (unmarked h e l) = rw h (found-both (noneAt at) 0 e l)
+  tells-weak (empty h c e l) = rw (h, c, listed-none at 0 (drop 3 cs) refl) (found-both (noneAt at) 3 e l)
+  tells-weak (filled count each h c some m r e l) =
+      rw (h, c, listed-whole at count (drop 3 cs) some each 2 (count * each) (count * each) m (rw (drop-drop 2 3 cs) r))
+      (found-both (listAt at count each) (5 + count * each) e l)
+
+  -- it goes onward, and not past the end
+  pub weak-onward : weakField mark at cs ≡ done (w, n) → n ≤ length cs
+  weak-onward e = go (weak-tells e)
+    where
+      go : Tells mark at cs w n → n ≤ length cs
+      go (unmarked h e l) = omega arith
+      go (empty h c e l) =
+          let f = number-found 0 99 WeakList03 (drop 1 cs) 0 2 c .1 in
+          omega (arith, length-drop 1 cs)
+      go (filled count each h c some m r e l) =
+          let f = number-found 4 12 Field15 (drop 3 cs) each 2 m .1 in
+          let g = run-found Digit WeakList03 WeakList03 (count * each) (drop 5 cs) (count * each) (count * each) r .2 in
+          omega (arith, length-drop 3 cs, length-drop 5 cs)
+
+-- a weak list that was found lies in the command
+pub weak-lies : (mark at : ℕ) (s : List ℕ) (w : Weak) (n : ℕ) → weakField mark at (drop at s) ≡ done (w, n) → at ≤ length s → Lies w s
+weak-lies mark at s w n e h = go (weak-tells mark at (drop at s) w n e)
+  where
+    onward : n ≤ length s - at
+    onward = rw length-drop at (weak-onward mark at (drop at s) w n e)
+
+    go : Tells mark at (drop at s) w n → Lies w s
+    go (unmarked t e l) = rw e (record { short = omega arith; few = omega arith; inside = omega arith })
+    go (empty t c e l) = rw e (record { short = omega arith; few = omega arith; inside = omega arith })
+    go (filled count each t c some m r e l) =
+        let high = number-found 4 12 Field15 (drop 3 (drop at s)) each 2 m .3 in
+        let most = number-found 0 99 WeakList03 (drop 1 (drop at s)) count 2 c .3 in
+        rw e (record { short = high; few = most; inside = omega (arith, onward) })
+
+-- ---- an entry and a PIN, digit by digit
+
+module _ (xs ys : List ℕ) (i : ℕ) (here : i < length xs) (there : i < length ys) where
+  -- one more digit that is the same
+  pub same-on : getD ys i 0 ≡ getD xs i 0 → same (drop i xs) (drop i ys) ≡ same (drop (i + 1) xs) (drop (i + 1) ys)
+  unfolding same
+  same-on e = rw (drop-cons xs i 0 here, drop-cons ys i 0 there, eq-eqb (getD xs i 0) (getD ys i 0) (sym e), add-one i)
+
+  -- another digit
+  pub same-stop : (getD ys i 0 ≡ getD xs i 0 → ⊥) → same (drop i xs) (drop i ys) ≡ false
+  unfolding same
+  same-stop d = rw (drop-cons xs i 0 here, drop-cons ys i 0 there, ne-eqb (getD xs i 0) (getD ys i 0) (λ e. d (sym e)))
+
+-- no digit is left
+pub same-over : (xs ys : List ℕ) (i : ℕ) → length xs ≤ i → length ys ≤ i → same (drop i xs) (drop i ys) ≡ true
+unfolding same
+same-over xs ys i h k = rw (drop-of-length-le xs h, drop-of-length-le ys k)
+
+-- the digits of the entry at a place
+abbrev pub entry : ℕ → ℕ → List ℕ → List ℕ
+entry from n s = map valueOf (take n (drop from s))
+
+module _ (s : List ℕ) (from n : ℕ) (inside : from + n ≤ length s) where
+  -- it has as many characters
+  pub entry-taken : length (take n (drop from s)) ≡ n
+  entry-taken = length-take-le n (drop from s) (rw length-drop (omega arith))
+
+  -- and as many digits
+  pub entry-length : length (entry from n s) ≡ n
+  entry-length = length-map (take n (drop from s)) valueOf ∙ entry-taken
+
+  -- each digit is that of its character
+  pub entry-at : (i : ℕ) → i < n → getD (entry from n s) i 0 ≡ valueOf (getD s (from + i) 0)
+  entry-at i h = map-at valueOf (take n (drop from s)) i 0 0 (rw entry-taken h) ∙ ap valueOf (getD-take n (drop from s) i 0 h ∙ getD-drop from s i 0)
+
+-- ---- whether a PIN is on the list
+
+module _ (pin : List ℕ) (k n i : ℕ) (cs : List ℕ) where
+  -- one entry more in front of the rest
+  entries-next : i < k → entries (k - i) n cs ≡ map valueOf (take n cs) ∷ entries (k - (i + 1)) n (drop n cs)
+  unfolding entries
+  entries-next h = let e : k - i ≡ suc (k - (i + 1)) = omega arith in rw e
+
+  -- it is the next entry
+  pub on-here : i < k → same pin (map valueOf (take n cs)) ≡ true → isOn pin (entries (k - i) n cs) ≡ true
+  unfolding isOn
+  on-here h e = rw (entries-next h, e)
+
+  -- it is not, and the rest of the entries decides
+  pub on-next : i < k → same pin (map valueOf (take n cs)) ≡ false → isOn pin (entries (k - i) n cs) ≡ isOn pin (entries (k - (i + 1)) n (drop n cs))
+  unfolding isOn
+  on-next h e = rw (entries-next h, e)
+
+  -- no entry is left
+  pub on-over : k ≤ i → isOn pin (entries (k - i) n cs) ≡ false
+  unfolding isOn entries
+  on-over h = let e : k - i ≡ 0 = omega arith in rw e
+
+-- "A weak PIN of another length than the PIN never matches"
+pub on-other : (pin : List ℕ) (n : ℕ) → (length pin ≡ n → ⊥) → (k : ℕ) (cs : List ℕ) → k * n ≤ length cs → isOn pin (entries k n cs) ≡ false
+unfolding isOn entries
+on-other pin n d zero cs h = refl
+on-other pin n d (suc k) cs h =
+    let room = rw suc-mul at h in
+    let l : length (map valueOf (take n cs)) ≡ n = length-map (take n cs) valueOf ∙ length-take-le n cs (omega arith) in
+    rw (same-false pin (map valueOf (take n cs)) (λ e. d (ap length e ∙ l))) (on-other pin n d k (drop n cs) (rw length-drop (omega arith)))
+
+-- an entry of a list that lies in the command lies in it
+pub entry-inside : (w : Weak) (s : List ℕ) (i : ℕ) → Lies w s → i < w .count → w .list + i * w .length + w .length ≤ length s
+entry-inside w s i l h = let most = mul-le-mul-right {m = i + 1} {n = w .count} (w .length) (omega arith) in let room = l .inside in omega arith

@@ -1,0 +1,2 @@
+pub mod Weak
+pub mod Answers

@@ -1,0 +1,126 @@
+// The weak PINs of a command: their field, and whether a PIN is one of them.
+ghost use mathlib.Core.Path.{_≡_};
+ghost use mathlib.Core.List.{map};
+ghost use Prim.Native.Nat.{_+_, _≤_};
+ghost use lib.ListN.{length, take, drop};
+ghost use Rattle.nibbles.specs.Nibbles.{row, same};
+ghost use Rattle.alphabet.specs.Alphabet.{valueOf};
+ghost use Rattle.weak.specs.Weak.{listed, weakField, isOn, weakPins};
+ghost use Rattle.weak.specs.Answers.{weakFrom, refusalIn, Lies};
+use alphabet::Class;
+use fields::Cursor;
+use fields::Mark;
+use fields::Value;
+use numbers::Refusal;
+
+// How many weak PINs there are, the length of each and where their list begins.
+pub struct Weak {
+    pub count: usize,
+    pub length: usize,
+    pub list: usize,
+}
+
+// The weak list and the cursor behind it, or why there is none.
+pub enum WeakRead {
+    Got(Weak, Cursor),
+    Bad(Refusal),
+}
+
+impl WeakRead {
+    // Why there is no weak list; asked only where there is none.
+    pub fn refusal(self) -> Refusal
+        ensures { λ r. ⌜ r ≡ refusalIn self ⌝ }
+    {
+        match self {
+            WeakRead::Got(_, _) => Refusal::WeakList03,
+            WeakRead::Bad(q) => q,
+        }
+    }
+}
+
+// The length and the list behind a count; `start` is where the field begins.
+fn list_behind(start: usize, count: usize, cursor: Cursor, command: &[u8]) -> WeakRead
+    requires { ⌜ (count ≤ 99) × (cursor .at ≡ start + 3) ⌝ }
+    ensures { λ r. ⌜ r ≡ weakFrom start (listed start count (drop (cursor .at) (now (command .entry)))) ⌝ }
+{
+    if count == 0 {
+        let none = Weak {
+            count: 0,
+            length: 0,
+            list: start,
+        };
+        return WeakRead::Got(none, cursor);
+    }
+    let measured = cursor.number(command, 4, 12, Refusal::Field15);
+    let Value::Got(length, list) = measured else {
+        return WeakRead::Bad(Refusal::Field15);
+    };
+    let short = Refusal::WeakList03;
+    let digits = list.run(command, count * length, Class::Digit, short, short);
+    let Value::Got(_, next) = digits else {
+        return WeakRead::Bad(short);
+    };
+    let weak = Weak {
+        count,
+        length,
+        list: list.at,
+    };
+    WeakRead::Got(weak, next)
+}
+
+// The optional weak list, behind its mark.
+pub fn weak_field(cursor: Cursor, command: &[u8], mark: u8) -> WeakRead
+    ensures { λ r. ⌜ r ≡ weakFrom (cursor .at) (weakField mark (cursor .at) (drop (cursor .at) (now (command .entry)))) ⌝ }
+{
+    let start = cursor.at;
+    let marked = cursor.mark(command, mark);
+    let Mark::Behind(digits) = marked else {
+        let none = Weak {
+            count: 0,
+            length: 0,
+            list: start,
+        };
+        return WeakRead::Got(none, cursor);
+    };
+    let counted = digits.number(command, 0, 99, Refusal::WeakList03);
+    let Value::Got(count, next) = counted else {
+        return WeakRead::Bad(Refusal::WeakList03);
+    };
+    list_behind(start, count, next, command)
+}
+
+// Whether the entry at a place is the PIN, which has as many digits.
+fn is_entry(command: &[u8], from: usize, n: usize, digits: u64) -> bool
+    requires { ⌜ (n ≤ 16) × (from + n ≤ length (now command)) ⌝ }
+    ensures { λ r. ⌜ r ≡ same (row n digits) (map valueOf (take n (drop from (now (command .entry))))) ⌝ }
+{
+    let mut i = 0;
+    while i < n {
+        if alphabet::value(command[from + i]) as u64 != nibbles::nibble(digits, i) {
+            return false;
+        }
+        i += 1;
+    }
+    true
+}
+
+// Whether a PIN of n digits is on the weak list.
+pub fn is_weak(weak: Weak, command: &[u8], n: usize, digits: u64) -> bool
+    requires { ⌜ Lies weak (now command) ⌝ }
+    ensures { λ r. ⌜ r ≡ isOn (row n digits) (weakPins weak (now (command .entry))) ⌝ }
+{
+    let length = weak.length;
+    if length != n {
+        return false;
+    }
+    let mut from = weak.list;
+    let mut i = 0;
+    while i < weak.count {
+        if is_entry(command, from, length, digits) {
+            return true;
+        }
+        from += length;
+        i += 1;
+    }
+    false
+}
