@@ -1,0 +1,78 @@
+-- What the code's answers tell of a stage: each field goes on or ends it.
+-- Assumes nothing.
+use Prim.Native.Nat.{ℕ, _+_, _-_, _≤_, _<_}
+use native.Mathlib.Omega.{arith}
+use mathlib.Core.Path.{_≡_, sym, ap, _∙_}
+use mathlib.Core.List.{List}
+use mathlib.Core.Bool.{Bool, true, false, cond}
+use lib.ListN.{length, take, drop, length-drop}
+use lib.Dec.{leb}
+use borrow.Author.Tests.{lt-leb, le-leb}
+use Rattle.numbers.specs.Numbers.{done, refused}
+use Rattle.numbers.specs.declared.Refusal.{Refusal}
+use Rattle.numbers.specs.declared.Refusal.the-variants.{Field15}
+use Rattle.formats.specs.declared.Format.{Format}
+use Rattle.fields.specs.Fields.{Found, Stage, faulty, field, marked}
+use Rattle.fields.specs.Answers.{cursorAt, valueFrom}
+use Rattle.fields.specs.declared.Value.the-variants as value
+use Rattle.keys.proofs.Laws.{any-found, any-bad}
+use Rattle.validation.specs.Validation.{isValidation}
+use Rattle.stages.specs.Stages.{validationWidth, validationField}
+use Rattle.fields.specs.declared.Cursor.{Cursor}
+use Rattle.stages.specs.Answers.{formatRead}
+use Rattle.stages.specs.declared.FormatRead.the-variants.{Got, Bad}
+
+-- ---- behind the code's answer
+
+-- a format was found, so many characters ago
+pub format-found : (at : ℕ) (o : Found Format) (f : Format) (c : Cursor) → Got f c ≡ formatRead at o → (n : ℕ) × (o ≡ done (f, n)) × (c ≡ cursorAt (at + n))
+format-found at (done (g, n)) f c e = (n, cc, cc)
+format-found at (refused q) f c e = absurd (let z : _≡_ {A = ℕ} 0 1 = cc in omega arith)
+
+-- none was
+pub format-bad : (at : ℕ) (o : Found Format) (q : Refusal) → Bad q ≡ formatRead at o → o ≡ refused q
+format-bad at (done r) q e = absurd (let z : _≡_ {A = ℕ} 0 1 = cc in omega arith)
+format-bad at (refused p) q e = cc
+
+module _ {B : Type 0} (k at : ℕ) (next : Format → ℕ → Stage B) (reader : List ℕ → Found Format) (s : List ℕ) where
+  -- where the code found the format, the next field begins at its cursor
+  pub format-field-found : (f : Format) (c : Cursor) → Got f c ≡ formatRead at (reader (drop at s)) → field k reader s at next ≡ next f (c .at)
+  format-field-found f c e = let r = format-found at (reader (drop at s)) f c e in any-found k at next reader s f (r .0) c (r .1) (r .2)
+
+  -- where it did not, that is the fault
+  pub format-field-bad : (q : Refusal) → Bad q ≡ formatRead at (reader (drop at s)) → field k reader s at next ≡ faulty (record { refusal = q; field = k; place = at })
+  format-field-bad q e = any-bad k at next reader s q (format-bad at (reader (drop at s)) q e)
+
+-- ---- validation data
+
+-- they have 12 characters or 17
+pub width-bounds : (cs : List ℕ) → (12 ≤ validationWidth cs) × (validationWidth cs ≤ 17)
+width-bounds cs = by-mark (marked 0x50 cs) where
+  by-mark : (there : Bool) → (12 ≤ cond there 17 12) × (cond there 17 12 ≤ 17)
+  by-mark true = (omega arith, omega arith)
+  by-mark false = (omega arith, omega arith)
+
+-- what the code's answer tells of them
+
+module _ (s : List ℕ) (at width : ℕ) (w : width ≡ validationWidth (drop at s)) where
+  pub validation-short : length s - at < width → value.Bad Field15 ≡ valueFrom at (validationField (drop at s))
+  unfolding validationField
+  validation-short h = rw (lt-leb (validationWidth (drop at s)) (length (drop at s)) (omega (arith, w, length-drop at s)))
+
+  module _ (h : width ≤ length s - at) where
+    fits : leb (validationWidth (drop at s)) (length (drop at s)) ≡ true
+    fits = le-leb (validationWidth (drop at s)) (length (drop at s)) (omega (arith, w, length-drop at s))
+
+    exact : at + width - at ≡ validationWidth (drop at s)
+    exact = omega (arith, w)
+
+    part : take (at + width - at) (drop at s) ≡ take (validationWidth (drop at s)) (drop at s)
+    part = ap (λ (n : ℕ). take n (drop at s)) exact
+
+    pub validation-whole : isValidation (take (at + width - at) (drop at s)) ≡ true → value.Got width (cursorAt (at + width)) ≡ valueFrom at (validationField (drop at s))
+    unfolding validationField
+    validation-whole e = rw (fits, ap isValidation (sym part) ∙ e, w)
+
+    pub validation-wrong : isValidation (take (at + width - at) (drop at s)) ≡ false → value.Bad Field15 ≡ valueFrom at (validationField (drop at s))
+    unfolding validationField
+    validation-wrong e = rw (fits, ap isValidation (sym part) ∙ e)

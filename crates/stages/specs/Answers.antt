@@ -1,0 +1,96 @@
+-- The stages' answers as values of the code.
+use Prim.Native.Nat.{ℕ, _+_}
+use mathlib.Core.List.{List}
+use Rattle.numbers.specs.Numbers.{Outcome, done, refused}
+use Rattle.numbers.specs.declared.Refusal.{Refusal}
+use Rattle.numbers.specs.declared.Refusal.the-variants.{Field15, NotHere69}
+use Rattle.nibbles.specs.Nibbles.{word}
+use Rattle.formats.specs.declared.Format.{Format}
+use Rattle.fields.specs.Fields.{Found, Stage, read, faulty}
+use Rattle.fields.specs.Answers.{cursorAt}
+use Rattle.fields.specs.declared.Fault.{Fault}
+use Rattle.weak.specs.declared.Weak.{Weak}
+use Rattle.stages.specs.declared.Keys.{Keys}
+use Rattle.stages.specs.declared.Sealed.{Sealed}
+use Rattle.stages.specs.declared.Offsetting.{Offsetting}
+use Rattle.stages.specs.declared.Boxed.{Boxed}
+use Rattle.stages.specs.declared.FormatRead.{FormatRead}
+use Rattle.stages.specs.declared.FormatRead.the-variants as format
+use Rattle.stages.specs.declared.KeysRead.{KeysRead}
+use Rattle.stages.specs.declared.KeysRead.the-variants as keys
+use Rattle.stages.specs.declared.SealedRead.{SealedRead}
+use Rattle.stages.specs.declared.SealedRead.the-variants as sealed
+use Rattle.stages.specs.declared.OffsettingRead.{OffsettingRead}
+use Rattle.stages.specs.declared.OffsettingRead.the-variants as offsetting
+use Rattle.stages.specs.declared.WeakStage.{WeakStage}
+use Rattle.stages.specs.declared.WeakStage.the-variants as weak
+use Rattle.stages.specs.declared.End.{End}
+use Rattle.stages.specs.declared.End.the-variants as end
+use Rattle.stages.specs.declared.BoxRead.{BoxRead}
+use Rattle.stages.specs.declared.BoxRead.the-variants as boxed
+
+-- the fault that a converter gives where it is asked of what was read; nothing asks that
+abbrev pub noFault : Fault
+noFault = record { refusal = Field15; field = 0; place = 0 }
+
+-- ---- what a stage came to
+
+abbrev pub keysRead : Stage Keys → KeysRead
+keysRead (read ks at) = keys.Got ks (cursorAt at)
+keysRead (faulty f) = keys.Bad f
+
+abbrev pub sealedRead : Stage Sealed → SealedRead
+sealedRead (read x at) = sealed.Got x (cursorAt at)
+sealedRead (faulty f) = sealed.Bad f
+
+abbrev pub offsettingRead : Stage Offsetting → OffsettingRead
+offsettingRead (read x at) = offsetting.Got x (cursorAt at)
+offsettingRead (faulty f) = offsetting.Bad f
+
+abbrev pub weakStage : Stage Weak → WeakStage
+weakStage (read w at) = weak.Got w (cursorAt at)
+weakStage (faulty f) = weak.Bad f
+
+abbrev pub endOf : Stage ℕ → End
+endOf (read mark at) = end.At mark
+endOf (faulty f) = end.Bad f
+
+-- ---- the fault, where there is one
+
+abbrev pub keysFault : KeysRead → Fault
+keysFault (keys.Got ks c) = noFault
+keysFault (keys.Bad f) = f
+
+abbrev pub sealedFault : SealedRead → Fault
+sealedFault (sealed.Got x c) = noFault
+sealedFault (sealed.Bad f) = f
+
+abbrev pub offsettingFault : OffsettingRead → Fault
+offsettingFault (offsetting.Got x c) = noFault
+offsettingFault (offsetting.Bad f) = f
+
+abbrev pub weakFault : WeakStage → Fault
+weakFault (weak.Got w c) = noFault
+weakFault (weak.Bad f) = f
+
+abbrev pub endFault : End → Fault
+endFault (end.At mark) = noFault
+endFault (end.Bad f) = f
+
+-- ---- a format's field, and the key box's answers
+
+abbrev pub formatRead : ℕ → Found Format → FormatRead
+formatRead at (done r) = format.Got (r .0) (cursorAt (at + r .1))
+formatRead at (refused q) = format.Bad q
+
+abbrev pub formatRefusal : FormatRead → Refusal
+formatRefusal (format.Got f c) = NotHere69
+formatRefusal (format.Bad q) = q
+
+abbrev pub boxRead : Outcome (List ℕ × List ℕ) → BoxRead
+boxRead (done p) = boxed.Got (record { block = word (p .0); enciphered = word (p .1) })
+boxRead (refused q) = boxed.Bad q
+
+abbrev pub boxRefusal : BoxRead → Refusal
+boxRefusal (boxed.Got b) = Field15
+boxRefusal (boxed.Bad q) = q

@@ -1,0 +1,416 @@
+// The stages of a command: runs of fields that commands share, and the key box's answers. What a stage read is places in the
+// command and the few values that later stages need.
+ghost use mathlib.Core.Path.{_≡_};
+ghost use Prim.Native.Nat.{_+_, _≤_};
+ghost use lib.ListN.{length, drop};
+ghost use Rattle.fields.specs.Answers.{valueFrom};
+ghost use Rattle.stages.specs.Stages.{keys, allows, formatField, sealed, validationWidth, validationField, offsetting, weak, allAgree, lastId, closed, end, boxed};
+ghost use Rattle.stages.specs.Answers.{keysRead, keysFault, sealedRead, sealedFault, offsettingRead, offsettingFault, weakStage, weakFault, endOf, endFault, formatRead, formatRefusal, boxRead, boxRefusal};
+use alphabet::Class;
+use fields::Cursor;
+use fields::Fault;
+use fields::Mark;
+use fields::Value;
+use formats::Chosen;
+use formats::Format;
+use keys::Keyed;
+use keys::Lmk;
+use keys::Typed;
+use keys::Use;
+use numbers::Refusal;
+use pins::Row;
+use validation::Shape;
+use weak::Weak;
+use weak::WeakRead;
+
+// The LMK ids of two keys, and the number and the place of the second key's field.
+pub struct Keys {
+    pub first: Lmk,
+    pub second: Lmk,
+    pub field: usize,
+    pub place: usize,
+}
+
+// Where the PIN block stands, and its format.
+pub struct Sealed {
+    pub block: usize,
+    pub format: Format,
+}
+
+// The check length, and where account, table and validation data stand; the validation data have a width.
+pub struct Offsetting {
+    pub check: usize,
+    pub account: usize,
+    pub table: usize,
+    pub validation: usize,
+    pub width: usize,
+}
+
+// The rows that the key box answered: the deciphered PIN block and the enciphered validation block.
+pub struct Boxed {
+    pub block: u64,
+    pub enciphered: u64,
+}
+
+pub enum KeysRead {
+    Got(Keys, Cursor),
+    Bad(Fault),
+}
+
+pub enum SealedRead {
+    Got(Sealed, Cursor),
+    Bad(Fault),
+}
+
+pub enum OffsettingRead {
+    Got(Offsetting, Cursor),
+    Bad(Fault),
+}
+
+pub enum WeakStage {
+    Got(Weak, Cursor),
+    Bad(Fault),
+}
+
+// Where the trailer's mark stands, or the command's end where there is none.
+pub enum End {
+    At(usize),
+    Bad(Fault),
+}
+
+pub enum FormatRead {
+    Got(Format, Cursor),
+    Bad(Refusal),
+}
+
+pub enum BoxRead {
+    Got(Boxed),
+    Bad(Refusal),
+}
+
+impl KeysRead {
+    // Why there are no keys; asked only where there are none. So with the other stages.
+    pub fn fault(self) -> Fault
+        ensures { λ r. ⌜ r ≡ keysFault self ⌝ }
+    {
+        match self {
+            KeysRead::Got(_, _) => no_fault(),
+            KeysRead::Bad(fault) => fault,
+        }
+    }
+}
+
+impl SealedRead {
+    pub fn fault(self) -> Fault
+        ensures { λ r. ⌜ r ≡ sealedFault self ⌝ }
+    {
+        match self {
+            SealedRead::Got(_, _) => no_fault(),
+            SealedRead::Bad(fault) => fault,
+        }
+    }
+}
+
+impl OffsettingRead {
+    pub fn fault(self) -> Fault
+        ensures { λ r. ⌜ r ≡ offsettingFault self ⌝ }
+    {
+        match self {
+            OffsettingRead::Got(_, _) => no_fault(),
+            OffsettingRead::Bad(fault) => fault,
+        }
+    }
+}
+
+impl WeakStage {
+    pub fn fault(self) -> Fault
+        ensures { λ r. ⌜ r ≡ weakFault self ⌝ }
+    {
+        match self {
+            WeakStage::Got(_, _) => no_fault(),
+            WeakStage::Bad(fault) => fault,
+        }
+    }
+}
+
+impl End {
+    pub fn fault(self) -> Fault
+        ensures { λ r. ⌜ r ≡ endFault self ⌝ }
+    {
+        match self {
+            End::At(_) => no_fault(),
+            End::Bad(fault) => fault,
+        }
+    }
+}
+
+impl FormatRead {
+    pub fn refusal(self) -> Refusal
+        ensures { λ r. ⌜ r ≡ formatRefusal self ⌝ }
+    {
+        match self {
+            FormatRead::Got(_, _) => Refusal::NotHere69,
+            FormatRead::Bad(q) => q,
+        }
+    }
+}
+
+impl BoxRead {
+    pub fn refusal(self) -> Refusal
+        ensures { λ r. ⌜ r ≡ boxRefusal self ⌝ }
+    {
+        match self {
+            BoxRead::Got(_) => Refusal::Field15,
+            BoxRead::Bad(q) => q,
+        }
+    }
+}
+
+fn no_fault() -> Fault
+    ensures { λ r. ⌜ r ≡ Rattle.stages.specs.Answers.noFault ⌝ }
+{
+    fault_at(Refusal::Field15, 0, Cursor { at: 0 })
+}
+
+// The fault of a field that begins at the cursor.
+fn fault_at(refusal: Refusal, field: usize, cursor: Cursor) -> Fault
+    ensures { λ r. ⌜ r ≡ record { refusal = refusal; field = field; place = cursor .at } ⌝ }
+{
+    Fault {
+        refusal,
+        field,
+        place: cursor.at,
+    }
+}
+
+// Key type and two keys.
+pub fn read_keys(command: &[u8], start: Cursor, field: usize, first: Use, second: Use) -> KeysRead
+    requires { ⌜ field ≤ 64 ⌝ }
+    ensures { λ r. ⌜ r ≡ keysRead (keys field first second (now (command .entry)) (start .at)) ⌝ }
+{
+    let typed = keys::key_type(start, command);
+    let Typed::Got(letters, at_first) = typed else {
+        return KeysRead::Bad(fault_at(Refusal::Field15, field, start));
+    };
+    let one = keys::key_field(at_first, command, letters, first);
+    let Keyed::Got(first_id, at_second) = one else {
+        return KeysRead::Bad(fault_at(one.refusal(), field + 1, at_first));
+    };
+    let other = keys::key_field(at_second, command, letters, second);
+    let Keyed::Got(second_id, next) = other else {
+        return KeysRead::Bad(fault_at(other.refusal(), field + 2, at_second));
+    };
+    let keys = Keys {
+        first: first_id,
+        second: second_id,
+        field: field + 2,
+        place: at_second.at,
+    };
+    KeysRead::Got(keys, next)
+}
+
+// The format: 15, then 23, then 69.
+fn format_field(cursor: Cursor, command: &[u8], restricted: bool) -> FormatRead
+    ensures { λ r. ⌜ r ≡ formatRead (cursor .at) (formatField restricted (drop (cursor .at) (now (command .entry)))) ⌝ }
+{
+    let coded = cursor.number(command, 0, 99, Refusal::Field15);
+    let Value::Got(code, next) = coded else {
+        return FormatRead::Bad(Refusal::Field15);
+    };
+    let chosen = Chosen::by(code as u32);
+    let Chosen::Of(format) = chosen else {
+        return FormatRead::Bad(chosen.refusal());
+    };
+    if !allowed(restricted, format) {
+        return FormatRead::Bad(Refusal::NotHere69);
+    }
+    FormatRead::Got(format, next)
+}
+
+// Whether a format may stand in a command.
+fn allowed(restricted: bool, format: Format) -> bool
+    ensures { λ r. ⌜ r ≡ allows restricted format ⌝ }
+{
+    if restricted {
+        return format.is_01_or_47();
+    }
+    true
+}
+
+// PIN block and format.
+pub fn read_sealed(command: &[u8], block: Cursor, field: usize, restricted: bool) -> SealedRead
+    requires { ⌜ field ≤ 64 ⌝ }
+    ensures { λ r. ⌜ r ≡ sealedRead (sealed field restricted (now (command .entry)) (block .at)) ⌝ }
+{
+    let digits = block.run(
+        command,
+        16,
+        Class::CapitalHex,
+        Refusal::Field15,
+        Refusal::Field15,
+    );
+    let Value::Got(_, at_format) = digits else {
+        return SealedRead::Bad(fault_at(Refusal::Field15, field, block));
+    };
+    let chosen = format_field(at_format, command, restricted);
+    let FormatRead::Got(format, next) = chosen else {
+        return SealedRead::Bad(fault_at(chosen.refusal(), field + 1, at_format));
+    };
+    let sealed = Sealed {
+        block: block.at,
+        format,
+    };
+    SealedRead::Got(sealed, next)
+}
+
+// How many characters the validation data at a place have.
+fn validation_width(cursor: Cursor, command: &[u8]) -> usize
+    ensures { λ r. ⌜ r ≡ validationWidth (drop (cursor .at) (now (command .entry))) ⌝ }
+{
+    let marked = cursor.mark(command, b'P');
+    let Mark::Behind(_) = marked else {
+        return 12;
+    };
+    17
+}
+
+fn validation_field(cursor: Cursor, command: &[u8]) -> Value
+    ensures { λ r. ⌜ r ≡ valueFrom (cursor .at) (validationField (drop (cursor .at) (now (command .entry)))) ⌝ }
+{
+    let at = cursor.at;
+    let width = validation_width(cursor, command);
+    if alphabet::ahead(command, at) < width {
+        return Value::Bad(Refusal::Field15);
+    }
+    let to = at + width;
+    match Shape::of(&command[at..to]) {
+        Shape::Template(_) => Value::Got(width, Cursor { at: to }),
+        Shape::Whole => Value::Got(width, Cursor { at: to }),
+        Shape::Neither => Value::Bad(Refusal::Field15),
+    }
+}
+
+// Check length, account, decimalisation table and validation data.
+pub fn read_offsetting(command: &[u8], start: Cursor, field: usize) -> OffsettingRead
+    requires { ⌜ field ≤ 64 ⌝ }
+    ensures { λ r. ⌜ r ≡ offsettingRead (offsetting field (now (command .entry)) (start .at)) ⌝ }
+{
+    let checked = start.number(command, 4, 12, Refusal::Field15);
+    let Value::Got(check, account) = checked else {
+        return OffsettingRead::Bad(fault_at(Refusal::Field15, field, start));
+    };
+    let digits = account.run(
+        command,
+        12,
+        Class::Digit,
+        Refusal::Field15,
+        Refusal::Field15,
+    );
+    let Value::Got(_, table) = digits else {
+        return OffsettingRead::Bad(fault_at(Refusal::Field15, field + 1, account));
+    };
+    let decimals = table.run(
+        command,
+        16,
+        Class::Digit,
+        Refusal::Field15,
+        Refusal::Table25,
+    );
+    let Value::Got(_, validation) = decimals else {
+        return OffsettingRead::Bad(fault_at(decimals.refusal(), field + 2, table));
+    };
+    let shaped = validation_field(validation, command);
+    let Value::Got(width, next) = shaped else {
+        return OffsettingRead::Bad(fault_at(shaped.refusal(), field + 3, validation));
+    };
+    let offsetting = Offsetting {
+        check,
+        account: account.at,
+        table: table.at,
+        validation: validation.at,
+        width,
+    };
+    OffsettingRead::Got(offsetting, next)
+}
+
+// The weak list; its mark is the command's.
+pub fn read_weak(command: &[u8], start: Cursor, field: usize, mark: u8) -> WeakStage
+    ensures { λ r. ⌜ r ≡ weakStage (weak field mark (now (command .entry)) (start .at)) ⌝ }
+{
+    let listed = weak::weak_field(start, command, mark);
+    let WeakRead::Got(weak, next) = listed else {
+        return WeakStage::Bad(fault_at(listed.refusal(), field, start));
+    };
+    WeakStage::Got(weak, next)
+}
+
+// Whether the LMK ids that are present all agree.
+fn all_agree(keys: Keys, own: Lmk) -> bool
+    ensures { λ r. ⌜ r ≡ allAgree keys own ⌝ }
+{
+    let first = keys.first;
+    let second = keys.second;
+    if !first.agrees(second) {
+        return false;
+    }
+    if !first.agrees(own) {
+        return false;
+    }
+    second.agrees(own)
+}
+
+// The fault of ids that disagree: it stands at the last one that is present.
+fn last_id(keys: Keys, own: Lmk, field: usize, start: Cursor) -> Fault
+    ensures { λ r. ⌜ r ≡ lastId keys own field (start .at) ⌝ }
+{
+    if own.is_present() {
+        return fault_at(Refusal::Field15, field, start);
+    }
+    fault_at(Refusal::Field15, keys.field, Cursor { at: keys.place })
+}
+
+// LMK id and trailer; then nothing is left over, and the ids agree.
+pub fn read_end(command: &[u8], start: Cursor, field: usize, keys: Keys) -> End
+    requires { ⌜ field ≤ 64 ⌝ }
+    ensures { λ r. ⌜ r ≡ endOf (end field keys (now (command .entry)) (start .at)) ⌝ }
+{
+    let named = keys::lmk_field(start, command);
+    let Keyed::Got(own, mark) = named else {
+        return End::Bad(fault_at(named.refusal(), field, start));
+    };
+    let trailing = mark.trailer(command);
+    let Value::Got(_, past) = trailing else {
+        return End::Bad(fault_at(trailing.refusal(), field + 1, mark));
+    };
+    if past.at < command.len() {
+        return End::Bad(fault_at(Refusal::Field15, 0, past));
+    }
+    if !all_agree(keys, own) {
+        return End::Bad(last_id(keys, own, field, start));
+    }
+    End::At(mark.at)
+}
+
+// The key box's answers: the slices (15), 10, 11.
+pub fn key_box(pinkey: bool, pvk: bool, block: &[u8], enciphered: &[u8]) -> BoxRead
+    ensures { λ r. ⌜ r ≡ boxRead (boxed pinkey pvk (now (block .entry)) (now (enciphered .entry))) ⌝ }
+{
+    let sized = pins::sized_row(block, 8);
+    let Row::Held(clear) = sized else {
+        return BoxRead::Bad(Refusal::Field15);
+    };
+    let sealed = pins::sized_row(enciphered, 8);
+    let Row::Held(cipher) = sealed else {
+        return BoxRead::Bad(Refusal::Field15);
+    };
+    if !pinkey {
+        return BoxRead::Bad(Refusal::PinKeyParity10);
+    }
+    if !pvk {
+        return BoxRead::Bad(Refusal::PvkParity11);
+    }
+    BoxRead::Got(Boxed {
+        block: clear,
+        enciphered: cipher,
+    })
+}
