@@ -1,0 +1,167 @@
+-- What a command that was read holds: its places lie in it, and what is made of it is as long as it should be.
+-- Assumes nothing.
+use Prim.Native.Nat.{ℕ, _+_, _-_, _≤_}
+use native.Mathlib.Omega.{arith}
+use mathlib.Core.Path.{_≡_, sym, ap, _∙_, subst}
+use mathlib.Core.List.{List}
+use mathlib.Core.Bool.{Bool, true, not}
+use lib.ListN.{length, length-map, length-drop}
+use Rattle.nibbles.specs.Nibbles.{packs, every}
+use Rattle.nibbles.proofs.Laws.{Below, below-every, nibs-length}
+use Rattle.numbers.specs.Numbers.{done, unless}
+use Rattle.numbers.specs.declared.Refusal.the-variants.{PinKeyParity10, PvkParity11, Weak86}
+use Rattle.numbers.proofs.Laws.{then-done, passed, value-of}
+use Rattle.settings.specs.declared.Settings.{Settings}
+use Rattle.pins.specs.Pins.{digit, sized}
+use Rattle.pins.proofs.Laws.{digits-below, sized-done}
+use Rattle.blocks.proofs.Laws.{Sixteen, sixteen-bytes}
+use Rattle.validation.specs.Validation.{validationRow}
+use Rattle.validation.proofs.Laws.{row-sixteen}
+use Rattle.ibm3624.specs.Ibm3624.{covers, lastOf, covered, offsetOf, moduloTen}
+use Rattle.ibm3624.proofs.Laws.{differences-length, reduced-below}
+use Rattle.offsets.specs.Offsets.{pinWithNatural, offsetFor}
+use Rattle.offsets.proofs.Laws.{with-natural-fit}
+use Rattle.fields.specs.Fields.{Stage, read, faulty, onward, outcome}
+use Rattle.keys.specs.declared.Use.the-variants.{PinKey, Pvk}
+use Rattle.weak.specs.Weak.{isOn, weakPins}
+use Rattle.weak.specs.declared.Weak.{Weak}
+use Rattle.stages.specs.Stages.{keys, sealed, offsetting, weak, end, boxed}
+use Rattle.stages.specs.declared.Keys.{Keys}
+use Rattle.stages.specs.declared.Sealed.{Sealed}
+use Rattle.stages.specs.declared.Offsetting.{Offsetting}
+use Rattle.stages.proofs.Laws.{onward-read, read-once, offsetting-held, weak-held, end-held}
+use Rattle.bk.proofs.Laws.{values-length, values-below}
+use Rattle.bk.specs.Bk.{weakMark, bkFields, part, accountIn, tableIn, validationIn, bkAsk, bkFinish, bkAnswer}
+use Rattle.bk.specs.Answers.{Placed}
+use Rattle.bk.specs.declared.Bk.{Bk}
+
+-- ---- the places
+
+-- from the stages that have any, in their order
+laid :
+    (s : List ℕ) (ks : Keys) (block : Sealed) (inputs : Offsetting) (pins : Weak) (mark at₆ at₁₀ at₁₁ past : ℕ)
+    → offsetting 6 s at₆ ≡ read inputs at₁₀ → weak 10 weakMark s at₁₀ ≡ read pins at₁₁ → end 11 ks s at₁₁ ≡ read mark past
+    → Placed s (record { sealed = block; offsetting = inputs; weak = pins; trailer = mark })
+laid s ks block inputs pins mark at₆ at₁₀ at₁₁ past e₆ e₁₀ e₁₁ =
+    let held = offsetting-held 6 s at₆ inputs at₁₀ e₆ in
+    let listed = weak-held 10 weakMark s at₁₀ pins at₁₁ e₁₀ (held .onward) in
+    let ended = end-held 11 ks s at₁₁ mark past e₁₁ (listed .1) in
+    record {
+      account = held .account;
+      table = held .table;
+      digits = held .digits;
+      validation = held .validation;
+      check = held .check;
+      weak = listed .0;
+      trailer = ended .0;
+      tail = ended .1;
+    }
+
+-- a command that was read has its places in it, and its table has digits
+pub placed : (restricted : Bool) (s : List ℕ) (at : ℕ) (p : Bk) (past : ℕ) → bkFields restricted s at ≡ read p past → Placed s p
+unfolding bkFields
+placed restricted s at p past e =
+    let o₁ = onward-read (keys 1 PinKey Pvk s at) _ p past e in
+    let o₄ = onward-read (sealed 4 restricted s (o₁ .1)) _ p past (o₁ .3) in
+    let o₆ = onward-read (offsetting 6 s (o₄ .1)) _ p past (o₄ .3) in
+    let o₁₀ = onward-read (weak 10 weakMark s (o₆ .1)) _ p past (o₆ .3) in
+    let o₁₁ = onward-read (end 11 (o₁ .0) s (o₁₀ .1)) _ p past (o₁₀ .3) in
+    subst (Placed s) (read-once (o₁₁ .3) .0)
+    (laid s (o₁ .0) (o₄ .0) (o₆ .0) (o₁₀ .0) (o₁₁ .0) (o₄ .1) (o₆ .1) (o₁₀ .1) (o₁₁ .1) (o₆ .2) (o₁₀ .2) (o₁₁ .2))
+
+-- what the host meets of a stage that was read
+pub outcome-read : {A : Type 0} (stage : Stage A) (a : A) → outcome stage ≡ done a → (past : ℕ) × (stage ≡ read a past)
+outcome-read (read b past) a e = (past, ap (λ (x : _). read x past) (value-of e))
+outcome-read (faulty f) a e = absurd (let z : _≡_ {A = ℕ} 0 1 = cc in omega arith)
+
+-- ---- the asking call
+
+-- the block that is asked for is the bytes of a row of sixteen
+pub asked-row : (settings : Settings) (s : List ℕ) (at : ℕ) (bytes : List ℕ) → bkAsk settings s at ≡ done bytes → (ns : List ℕ) × Sixteen ns × (bytes ≡ packs ns)
+unfolding bkAsk
+asked-row settings s at bytes e =
+    let f = then-done (outcome (bkFields (settings .restricted) s at)) _ bytes e in
+    let p = f .0 in
+    let r = outcome-read (bkFields (settings .restricted) s at) p (f .1) in
+    let inside = placed (settings .restricted) s at p (r .0) (r .1) .account in
+    let v = then-done (validationRow (accountIn s p) (validationIn s p)) _ bytes (f .2) in
+    let account = p .offsetting .account in
+    (v .0, row-sixteen (accountIn s p) (validationIn s p) (v .0) (values-length s account 12 inside) (values-below s account 12 inside) (v .1), sym (value-of (v .2)))
+
+-- it has eight bytes
+pub asked-eight : (settings : Settings) (s : List ℕ) (at : ℕ) (bytes : List ℕ) → bkAsk settings s at ≡ done bytes → length bytes ≡ 8
+asked-eight settings s at bytes e = let r = asked-row settings s at bytes e in ap length (r .2) ∙ sixteen-bytes (r .0) (r .1)
+
+-- ---- the answering call
+
+-- what the key box answered are two rows of sixteen
+boxed-sixteen : (g h : Bool) (block enciphered : List ℕ) (rows : List ℕ × List ℕ) → boxed g h block enciphered ≡ done rows → (length (rows .0) ≡ 16) × (length (rows .1) ≡ 16)
+unfolding boxed
+boxed-sixteen g h block enciphered rows e =
+    let b = then-done (sized 8 block) _ rows e in
+    let c = then-done (sized 8 enciphered) _ rows (b .2) in
+    let k = then-done (unless PinKeyParity10 g (c .0)) _ rows (c .2) in
+    let q = passed PvkParity11 h (b .0, c .0) rows (k .2) .1 in
+    (ap (λ (r : List ℕ × List ℕ). length (r .0)) (sym q) ∙ long block (b .0) (b .1), ap (λ (r : List ℕ × List ℕ). length (r .1)) (sym q) ∙ long enciphered (c .0) (c .1))
+  where
+    long : (bs ns : List ℕ) → sized 8 bs ≡ done ns → length ns ≡ 16
+    long bs ns d = let z = sized-done 8 bs ns d in ap length (sym (z .1)) ∙ nibs-length bs ∙ (let n = z .0 in omega arith)
+
+-- an offset that was made of a PIN and a natural PIN of one length is no longer than the PIN, and has digits
+offset-within :
+    (variable : Bool) (check : ℕ) (pair : List ℕ × List ℕ) (ds : List ℕ) → length (pair .1) ≡ length (pair .0) → offsetFor variable check pair ≡ done ds
+    → (length ds ≤ length (pair .0)) × Below 10 ds
+offset-within variable check pair ds alike e =
+    let t = then-done (covers variable check (length (pair .0))) _ ds e in
+    let whole : offsetOf (t .0) (pair .0) (pair .1) ≡ ds = value-of (t .2) in
+    (subst (λ (os : List ℕ). length os ≤ length (pair .0)) whole (short (t .0) (pair .0) (pair .1) alike), subst (Below 10) whole (reduced-below (covered (t .0) (pair .0) (pair .1))))
+  where
+    last : (m : ℕ) (ps : List ℕ) → length (lastOf m ps) ≡ length ps - (length ps - m)
+    last m ps = length-drop (length ps - m) ps
+
+    short : (m : ℕ) (ps qs : List ℕ) → length qs ≡ length ps → length (offsetOf m ps qs) ≤ length ps
+    short m ps qs l =
+        let a = last m ps in
+        let b = last m qs in
+        let d = differences-length (lastOf m ps) (lastOf m qs) (omega arith) in
+        let n = length-map (covered m ps qs) moduloTen in
+        omega arith
+
+-- a finish that came to an offset: at most twelve digits
+finish-within :
+    (variable : Bool) (s : List ℕ) (p : Bk) (rows : List ℕ × List ℕ) (ds : List ℕ) → Placed s p → length (rows .0) ≡ 16 → length (rows .1) ≡ 16
+    → bkFinish variable s p rows ≡ done ds → (length ds ≤ 12) × Below 10 ds
+unfolding bkFinish
+finish-within variable s p rows ds inside b c e =
+    let n = then-done (pinWithNatural (p .sealed .format) (tableIn s p) (rows .0, accountIn s p, rows .1)) _ ds e in
+    let o = then-done (offsetFor variable (p .offsetting .check) (n .0)) _ ds (n .2) in
+    let same = passed Weak86 (not (isOn (n .0 .0) (weakPins (p .weak) s))) (o .0) ds (o .2) .1 in
+    let table : every digit (tableIn s p) ≡ true = below-every 9 (tableIn s p) (digits-below (part s (p .offsetting .table) 16) (inside .digits)) in
+    let fit = with-natural-fit (p .sealed .format) (tableIn s p) (rows .0, accountIn s p, rows .1) b (values-length s (p .offsetting .account) 12 (inside .account)) c table (n .0) (n .1) in
+    let w = offset-within variable (p .offsetting .check) (n .0) (o .0) (fit .4) (o .1) in
+    (subst (λ (os : List ℕ). length os ≤ 12) same (omega (arith, w .0, fit .1)), subst (Below 10) same (w .1))
+
+-- what an answer holds: an offset of at most twelve digits, and the place of the trailer's mark, at most 33 bytes before the end
+pub record Answered (s : List ℕ) (d : List ℕ × ℕ) : Type 0 where
+  pub short : length (d .0) ≤ 12
+  pub digits : Below 10 (d .0)
+  pub inside : d .1 ≤ length s
+  pub tail : length s ≤ d .1 + 33
+
+module _ (settings : Settings) (g h : Bool) (s : List ℕ) (at : ℕ) (block enciphered : List ℕ) (d : List ℕ × ℕ) where
+  pub answer-held : bkAnswer settings g h s at block enciphered ≡ done d → Answered s d
+  unfolding bkAnswer
+  answer-held e =
+      let f = then-done (outcome (bkFields (settings .restricted) s at)) _ d e in
+      let p = f .0 in
+      let r = outcome-read (bkFields (settings .restricted) s at) p (f .1) in
+      let inside = placed (settings .restricted) s at p (r .0) (r .1) in
+      let k = then-done (boxed g h block enciphered) _ d (f .2) in
+      let sixteen = boxed-sixteen g h block enciphered (k .0) (k .1) in
+      let o = then-done (bkFinish (settings .variable) s p (k .0)) _ d (k .2) in
+      let w = finish-within (settings .variable) s p (k .0) (o .0) inside (sixteen .0) (sixteen .1) (o .1) in
+      subst (Answered s) (value-of (o .2)) (record { short = w .0; digits = w .1; inside = inside .trailer; tail = inside .tail })
+
+  -- there is room for it behind the longest header
+  pub brief : bkAnswer settings g h s at block enciphered ≡ done d → (length (d .0) ≤ 12) × (d .1 ≤ length s) × (length s ≤ d .1 + 33)
+  brief e = let a = answer-held e in (a .short, a .inside, a .tail)

@@ -1,0 +1,142 @@
+-- What the stages' answers tell of the fields: each stage goes on or ends them.
+-- Assumes nothing.
+use Prim.Native.Nat.{ℕ}
+use native.Mathlib.Omega.{arith}
+use mathlib.Core.Path.{_≡_}
+use mathlib.Core.List.{List}
+use mathlib.Core.Bool.{Bool}
+use Rattle.fields.specs.Fields.{Stage, read, faulty}
+use Rattle.fields.specs.declared.Cursor.{Cursor}
+use Rattle.fields.specs.declared.Fault.{Fault}
+use Rattle.keys.specs.declared.Use.the-variants.{PinKey, Pvk}
+use Rattle.weak.specs.declared.Weak.{Weak}
+use Rattle.stages.specs.Stages.{keys, sealed, offsetting, weak, end}
+use Rattle.stages.specs.Answers.{keysRead, sealedRead, offsettingRead, weakStage, endOf}
+use Rattle.stages.specs.declared.Keys.{Keys}
+use Rattle.stages.specs.declared.Sealed.{Sealed}
+use Rattle.stages.specs.declared.Offsetting.{Offsetting}
+use Rattle.stages.specs.declared.KeysRead.the-variants as keyed
+use Rattle.stages.specs.declared.SealedRead.the-variants as blocked
+use Rattle.stages.specs.declared.OffsettingRead.the-variants as data-read
+use Rattle.stages.specs.declared.WeakStage.the-variants as listed
+use Rattle.stages.specs.declared.End.the-variants as ended
+use Rattle.bk.specs.Bk.{weakMark, bkFields}
+use Rattle.bk.specs.Answers.{bkRead}
+use Rattle.bk.specs.declared.Bk.{Bk}
+use Rattle.bk.specs.declared.BkRead.the-variants as fields
+
+-- ---- behind a stage's answer: what was read, and where the next stage begins; or the fault
+
+pub keys-found : (o : Stage Keys) (ks : Keys) (c : Cursor) → keyed.Got ks c ≡ keysRead o → o ≡ read ks (c .at)
+keys-found (read x at) ks c e = let p : x ≡ ks = cc in let q : at ≡ c .at = cc in rw (p, q)
+keys-found (faulty f) ks c e = absurd (let z : _≡_ {A = ℕ} 0 1 = cc in omega arith)
+
+pub keys-bad : (o : Stage Keys) (f : Fault) → keyed.Bad f ≡ keysRead o → o ≡ faulty f
+keys-bad (read x at) f e = absurd (let z : _≡_ {A = ℕ} 0 1 = cc in omega arith)
+keys-bad (faulty g) f e = cc
+
+pub sealed-found : (o : Stage Sealed) (x : Sealed) (c : Cursor) → blocked.Got x c ≡ sealedRead o → o ≡ read x (c .at)
+sealed-found (read y at) x c e = let p : y ≡ x = cc in let q : at ≡ c .at = cc in rw (p, q)
+sealed-found (faulty f) x c e = absurd (let z : _≡_ {A = ℕ} 0 1 = cc in omega arith)
+
+pub sealed-bad : (o : Stage Sealed) (f : Fault) → blocked.Bad f ≡ sealedRead o → o ≡ faulty f
+sealed-bad (read x at) f e = absurd (let z : _≡_ {A = ℕ} 0 1 = cc in omega arith)
+sealed-bad (faulty g) f e = cc
+
+pub offsetting-found : (o : Stage Offsetting) (x : Offsetting) (c : Cursor) → data-read.Got x c ≡ offsettingRead o → o ≡ read x (c .at)
+offsetting-found (read y at) x c e = let p : y ≡ x = cc in let q : at ≡ c .at = cc in rw (p, q)
+offsetting-found (faulty f) x c e = absurd (let z : _≡_ {A = ℕ} 0 1 = cc in omega arith)
+
+pub offsetting-bad : (o : Stage Offsetting) (f : Fault) → data-read.Bad f ≡ offsettingRead o → o ≡ faulty f
+offsetting-bad (read x at) f e = absurd (let z : _≡_ {A = ℕ} 0 1 = cc in omega arith)
+offsetting-bad (faulty g) f e = cc
+
+pub weak-found : (o : Stage Weak) (w : Weak) (c : Cursor) → listed.Got w c ≡ weakStage o → o ≡ read w (c .at)
+weak-found (read x at) w c e = let p : x ≡ w = cc in let q : at ≡ c .at = cc in rw (p, q)
+weak-found (faulty f) w c e = absurd (let z : _≡_ {A = ℕ} 0 1 = cc in omega arith)
+
+pub weak-bad : (o : Stage Weak) (f : Fault) → listed.Bad f ≡ weakStage o → o ≡ faulty f
+weak-bad (read x at) f e = absurd (let z : _≡_ {A = ℕ} 0 1 = cc in omega arith)
+weak-bad (faulty g) f e = cc
+
+pub end-found : (o : Stage ℕ) (mark : ℕ) → ended.At mark ≡ endOf o → (past : ℕ) × (o ≡ read mark past)
+end-found (read m past) mark e = (past, (let p : m ≡ mark = cc in rw p))
+end-found (faulty f) mark e = absurd (let z : _≡_ {A = ℕ} 0 1 = cc in omega arith)
+
+pub end-bad : (o : Stage ℕ) (f : Fault) → ended.Bad f ≡ endOf o → o ≡ faulty f
+end-bad (read m past) f e = absurd (let z : _≡_ {A = ℕ} 0 1 = cc in omega arith)
+end-bad (faulty g) f e = cc
+
+-- ---- behind the fields' answer
+
+pub fields-found : (o : Stage Bk) (p : Bk) → fields.Got p ≡ bkRead o → (past : ℕ) × (o ≡ read p past)
+fields-found (read q past) p e = (past, (let h : q ≡ p = cc in rw h))
+fields-found (faulty f) p e = absurd (let z : _≡_ {A = ℕ} 0 1 = cc in omega arith)
+
+pub fields-bad : (o : Stage Bk) (f : Fault) → fields.Bad f ≡ bkRead o → o ≡ faulty f
+fields-bad (read q past) f e = absurd (let z : _≡_ {A = ℕ} 0 1 = cc in omega arith)
+fields-bad (faulty g) f e = cc
+
+-- ---- stage after stage
+
+module _ (restricted : Bool) (s : List ℕ) (at : ℕ) where
+  -- the keys are at fault
+  pub no-keys : (f : Fault) → keyed.Bad f ≡ keysRead (keys 1 PinKey Pvk s at) → bkFields restricted s at ≡ faulty f
+  unfolding bkFields
+  no-keys f e = rw (keys-bad (keys 1 PinKey Pvk s at) f e)
+
+  module _ (ks : Keys) (c₄ : Cursor) (e₁ : keyed.Got ks c₄ ≡ keysRead (keys 1 PinKey Pvk s at)) where
+    -- the block or its format is
+    pub no-block : (f : Fault) → blocked.Bad f ≡ sealedRead (sealed 4 restricted s (c₄ .at)) → bkFields restricted s at ≡ faulty f
+    unfolding bkFields
+    no-block f e = rw (keys-found (keys 1 PinKey Pvk s at) ks c₄ e₁, sealed-bad (sealed 4 restricted s (c₄ .at)) f e)
+
+    module _ (block : Sealed) (c₆ : Cursor) (e₄ : blocked.Got block c₆ ≡ sealedRead (sealed 4 restricted s (c₄ .at))) where
+      -- what the offset is made with is
+      pub no-data : (f : Fault) → data-read.Bad f ≡ offsettingRead (offsetting 6 s (c₆ .at)) → bkFields restricted s at ≡ faulty f
+      unfolding bkFields
+      no-data f e =
+          rw (
+            keys-found (keys 1 PinKey Pvk s at) ks c₄ e₁,
+            sealed-found (sealed 4 restricted s (c₄ .at)) block c₆ e₄,
+            offsetting-bad (offsetting 6 s (c₆ .at)) f e,
+          )
+
+      module _ (inputs : Offsetting) (c₁₀ : Cursor) (e₆ : data-read.Got inputs c₁₀ ≡ offsettingRead (offsetting 6 s (c₆ .at))) where
+        -- the weak list is
+        pub no-list : (f : Fault) → listed.Bad f ≡ weakStage (weak 10 weakMark s (c₁₀ .at)) → bkFields restricted s at ≡ faulty f
+        unfolding bkFields
+        no-list f e =
+            rw (
+              keys-found (keys 1 PinKey Pvk s at) ks c₄ e₁,
+              sealed-found (sealed 4 restricted s (c₄ .at)) block c₆ e₄,
+              offsetting-found (offsetting 6 s (c₆ .at)) inputs c₁₀ e₆,
+              weak-bad (weak 10 weakMark s (c₁₀ .at)) f e,
+            )
+
+        module _ (pins : Weak) (c₁₁ : Cursor) (e₁₀ : listed.Got pins c₁₁ ≡ weakStage (weak 10 weakMark s (c₁₀ .at))) where
+          -- the end is
+          pub no-end : (f : Fault) → ended.Bad f ≡ endOf (end 11 ks s (c₁₁ .at)) → bkFields restricted s at ≡ faulty f
+          unfolding bkFields
+          no-end f e =
+              rw (
+                keys-found (keys 1 PinKey Pvk s at) ks c₄ e₁,
+                sealed-found (sealed 4 restricted s (c₄ .at)) block c₆ e₄,
+                offsetting-found (offsetting 6 s (c₆ .at)) inputs c₁₀ e₆,
+                weak-found (weak 10 weakMark s (c₁₀ .at)) pins c₁₁ e₁₀,
+                end-bad (end 11 ks s (c₁₁ .at)) f e,
+              )
+
+          -- nothing is
+          pub all-read :
+              (mark : ℕ) → ended.At mark ≡ endOf (end 11 ks s (c₁₁ .at))
+              → fields.Got (record { sealed = block; offsetting = inputs; weak = pins; trailer = mark }) ≡ bkRead (bkFields restricted s at)
+          unfolding bkFields
+          all-read mark e =
+              rw (
+                keys-found (keys 1 PinKey Pvk s at) ks c₄ e₁,
+                sealed-found (sealed 4 restricted s (c₄ .at)) block c₆ e₄,
+                offsetting-found (offsetting 6 s (c₆ .at)) inputs c₁₀ e₆,
+                weak-found (weak 10 weakMark s (c₁₀ .at)) pins c₁₁ e₁₀,
+                end-found (end 11 ks s (c₁₁ .at)) mark e .1,
+              )

@@ -1,0 +1,111 @@
+-- `bk::answer` meets its contract.
+-- Assumes nothing.
+use mathlib.Core.Path.{sym, ap, _∙_}
+use borrow.Author.Needs.{needs}
+use Rattle.nibbles.proofs.Laws.{bytes-below}
+use Rattle.pins.specs.Answers.{refusalIn}
+use Rattle.stages.specs.Answers.{boxRefusal}
+use Rattle.bk.specs.Answers.{fieldsRefusal, finishedOf}
+use Rattle.bk.specs.declared.Finished.the-variants.{Bad}
+use Rattle.bk.proofs.Calls.{found-placed, answer-faulty, answer-unboxed, answer-unfinished, answer-made}
+use Rattle.bk.proofs.answer.Statement.{statement}
+use Rattle.bk.proofs.answer.Tie as tie
+
+read-requires : tie.Need-read-requires
+read-requires c κs = search needs
+
+enum-known-reread : tie.Need-enum-known-reread
+enum-known-reread c = search needs
+
+enum-told : tie.Need-enum-told
+enum-told c = search needs
+
+refusal-requires : tie.Need-refusal-requires
+refusal-requires c κs = search needs
+
+returns : tie.Need-returns
+returns c =
+    let a = c .before .before .before .before .before .before .before .args in
+    ap Bad (c .refusal .ensures ∙ ap fieldsRefusal (c .before .enum-told .given .1))
+    ∙ ap finishedOf (sym (answer-faulty (a .settings) (a .pinkey) (a .pvk) (a .command .now) (a .start .at) (a .block .now) (a .enciphered .now)
+    _ (sym (c .before .enum-told .given .1) ∙ c .before .before .before .read .ensures)))
+
+key-box-requires : tie.Need-key-box-requires
+key-box-requires c κs = search needs
+
+enum-known-answered : tie.Need-enum-known-answered
+enum-known-answered c = search needs
+
+enum-told-2 : tie.Need-enum-told-2
+enum-told-2 c = search needs
+
+refusal-requires-2 : tie.Need-refusal-requires-2
+refusal-requires-2 c κs = search needs
+
+returns-2 : tie.Need-returns-2
+returns-2 c =
+    let got = c .before .before .before .before .before in
+    let a = got .before .before .before .before .before .before .args in
+    ap Bad (c .refusal2 .ensures ∙ ap boxRefusal (c .before .enum-told2 .given .1))
+    ∙ ap finishedOf (sym (answer-unboxed (a .settings) (a .pinkey) (a .pvk) (a .command .now) (a .start .at) (a .block .now) (a .enciphered .now)
+    _ (sym (got .reread .given .1) ∙ got .before .before .read .ensures)
+    _ (sym (c .before .enum-told2 .given .1) ∙ c .before .before .before .key-box .ensures)))
+
+finish-requires : tie.Need-finish-requires
+finish-requires c κs =
+    let got = c .before .before .before .before .before in
+    let a = got .before .before .before .before .before .before .args in
+    found-placed (a .settings .restricted) (a .command .now) (a .start .at) _ (sym (got .reread .given .1) ∙ got .before .before .read .ensures)
+
+enum-known-finished : tie.Need-enum-known-finished
+enum-known-finished c = search needs
+
+enum-told-3 : tie.Need-enum-told-3
+enum-told-3 c = search needs
+
+refusal-requires-3 : tie.Need-refusal-requires-3
+refusal-requires-3 c κs = search needs
+
+returns-3 : tie.Need-returns-3
+returns-3 c =
+    let box = c .before .before .before .before .before in
+    let got = box .before .before .before .before in
+    let a = got .before .before .before .before .before .before .args in
+    ap Bad (c .refusal3 .ensures ∙ ap refusalIn (c .before .enum-told3 .given .1))
+    ∙ ap finishedOf (sym (answer-unfinished (a .settings) (a .pinkey) (a .pvk) (a .command .now) (a .start .at) (a .block .now) (a .enciphered .now)
+    _ (sym (got .reread .given .1) ∙ got .before .before .read .ensures)
+    _ (bytes-below (a .block .now) (got .before .before .before .before .shared-slice-known2 .given)) (bytes-below (a .enciphered .now) (got .before .before .before .shared-slice-known3 .given))
+    (sym (box .answered .given .1) ∙ box .before .before .key-box .ensures)
+    _ (sym (c .before .enum-told3 .given .1) ∙ c .before .before .before .finish .ensures)))
+
+returns-4 : tie.Need-returns-4
+returns-4 c =
+    let box = c .before .before .before .before .before in
+    let got = box .before .before .before .before in
+    let a = got .before .before .before .before .before .before .args in
+    answer-made (a .settings) (a .pinkey) (a .pvk) (a .command .now) (a .start .at) (a .block .now) (a .enciphered .now)
+    _ (sym (got .reread .given .1) ∙ got .before .before .read .ensures)
+    _ (bytes-below (a .block .now) (got .before .before .before .before .shared-slice-known2 .given)) (bytes-below (a .enciphered .now) (got .before .before .before .shared-slice-known3 .given))
+    (sym (box .answered .given .1) ∙ box .before .before .key-box .ensures)
+    _ (sym (c .before .finished .given .1) ∙ c .before .before .before .finish .ensures)
+
+pub answer-spec : {M : Type 1} → statement M
+answer-spec =
+    tie.close
+    (tie.spec
+    read-requires
+    enum-known-reread
+    enum-told
+    refusal-requires
+    returns
+    key-box-requires
+    enum-known-answered
+    enum-told-2
+    refusal-requires-2
+    returns-2
+    finish-requires
+    enum-known-finished
+    enum-told-3
+    refusal-requires-3
+    returns-3
+    returns-4)

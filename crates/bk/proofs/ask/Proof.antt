@@ -1,0 +1,92 @@
+-- `bk::ask` meets its contract.
+-- Assumes nothing.
+use Prim.Native.Nat.{ℕ, _+_, _-_}
+use native.Mathlib.Omega.{arith}
+use mathlib.Core.Path.{_≡_, sym, ap, _∙_}
+use lib.ListN.{take, drop}
+use borrow.Author.Needs.{needs}
+use Rattle.nibbles.specs.Nibbles.{row}
+use Rattle.pins.specs.Answers.{rowOf}
+use Rattle.pins.specs.declared.Row.the-variants.{Refused}
+use Rattle.blocks.specs.Answers.{blockOf}
+use Rattle.validation.specs.Validation.{validationRow}
+use Rattle.bk.specs.Answers.{fieldsRefusal}
+use Rattle.bk.proofs.Calls.{found-placed, ask-faulty, ask-row}
+use Rattle.bk.proofs.ask.Statement.{statement}
+use Rattle.bk.proofs.ask.Tie as tie
+
+read-requires : tie.Need-read-requires
+read-requires c κs = search needs
+
+enum-known-fields : tie.Need-enum-known-fields
+enum-known-fields c = search needs
+
+enum-told : tie.Need-enum-told
+enum-told c = search needs
+
+refusal-requires : tie.Need-refusal-requires
+refusal-requires c κs = search needs
+
+returns : tie.Need-returns
+returns c =
+    let a = c .before .before .before .before .before .args in
+    ap Refused (c .refusal .ensures ∙ ap fieldsRefusal (c .before .enum-told .given .1))
+    ∙ ap blockOf (sym (ask-faulty (a .settings) (a .command .now) (a .start .at) _ (sym (c .before .enum-told .given .1) ∙ c .before .before .before .read .ensures)))
+
+digits-at-requires : tie.Need-digits-at-requires
+digits-at-requires c κs =
+    let got = c .before .before in
+    let a = got .before .before .before .before .args in
+    (omega arith, found-placed (a .settings .restricted) (a .command .now) (a .start .at) _ (sym (got .fields .given .1) ∙ got .before .before .read .ensures) .account)
+
+add-to : tie.Need-add-to
+add-to c =
+    let got = c .before .before .before .before in
+    let a = got .before .before .before .before .args in
+    let inside = found-placed (a .settings .restricted) (a .command .now) (a .start .at) _ (sym (got .fields .given .1) ∙ got .before .before .read .ensures) .validation in
+    omega arith
+
+sub-validation-row : tie.Need-sub-validation-row
+sub-validation-row c = search needs
+
+part-validation-row-start : tie.Need-part-validation-row-start
+part-validation-row-start c = search needs
+
+part-validation-row-end : tie.Need-part-validation-row-end
+part-validation-row-end c =
+    let got = c .before .before .before .before in
+    let a = got .before .before .before .before .args in
+    found-placed (a .settings .restricted) (a .command .now) (a .start .at) _ (sym (got .fields .given .1) ∙ got .before .before .read .ensures) .validation
+
+validation-row-requires : tie.Need-validation-row-requires
+validation-row-requires c κs = search needs
+
+returns-2 : tie.Need-returns-2
+returns-2 c =
+    let got = c .before .before .before .before .before .before in
+    let a = got .before .before .before .before .args in
+    let p = got .fields .given .0 .0 in
+    let account = c .before .before .before .digits-at .result in
+    c .validation-row .ensures
+    ∙ ap (λ (n : ℕ). rowOf (validationRow (row 12 account) (take n (drop (p .offsetting .validation) (a .command .now))))) (whole (p .offsetting .validation) (p .offsetting .width))
+    ∙ ask-row (a .settings) (a .command .now) (a .start .at) p (sym (got .fields .given .1) ∙ got .before .before .read .ensures) account (c .before .before .before .digits-at .ensures)
+  where
+    whole : (from n : ℕ) → from + n - from ≡ n
+    whole from n = omega arith
+
+pub ask-spec : {M : Type 1} → statement M
+ask-spec =
+    tie.close
+    (tie.spec
+    read-requires
+    enum-known-fields
+    enum-told
+    refusal-requires
+    returns
+    digits-at-requires
+    add-to
+    sub-validation-row
+    part-validation-row-start
+    part-validation-row-end
+    validation-row-requires
+    returns-2)

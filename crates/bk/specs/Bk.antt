@@ -1,0 +1,79 @@
+-- "The BK command, field after field", and its finish: the offset for a terminal PIN.
+use Prim.Native.Nat.{ℕ}
+use mathlib.Core.List.{List, _++_, map}
+use mathlib.Core.Bool.{Bool, not}
+use lib.ListN.{take, drop}
+use Rattle.nibbles.specs.Nibbles.{packs}
+use Rattle.alphabet.specs.Alphabet.{valueOf}
+use Rattle.numbers.specs.Numbers.{Outcome, done, andThen, unless}
+use Rattle.numbers.specs.declared.Refusal.the-variants.{Weak86}
+use Rattle.settings.specs.declared.Settings.{Settings}
+use Rattle.validation.specs.Validation.{validationRow}
+use Rattle.ibm3624.specs.Ibm3624.{offsetText}
+use Rattle.offsets.specs.Offsets.{pinWithNatural, offsetFor}
+use Rattle.fields.specs.Fields.{Stage, read, onward, outcome}
+use Rattle.keys.specs.declared.Use.the-variants.{PinKey, Pvk}
+use Rattle.weak.specs.Weak.{isOn, weakPins}
+use Rattle.stages.specs.Stages.{keys, sealed, offsetting, weak, end, boxed}
+use Rattle.bk.specs.declared.Bk.{Bk}
+
+-- the weak list's mark: "ours is the semicolon"
+abbrev pub weakMark : ℕ
+weakMark = 0x3B
+
+-- the fields behind the command code, from the left
+unfoldable pub bkFields : Bool → List ℕ → ℕ → Stage Bk
+bkFields restricted s at₁ =
+    onward (keys 1 PinKey Pvk s at₁)
+    (λ ks at₄. onward (sealed 4 restricted s at₄)
+    (λ block at₆. onward (offsetting 6 s at₆)
+    (λ inputs at₁₀. onward (weak 10 weakMark s at₁₀)
+    (λ pins at₁₁. onward (end 11 ks s at₁₁)
+    (λ mark past. read (record { sealed = block; offsetting = inputs; weak = pins; trailer = mark }) past)))))
+
+-- ---- what stands in the fields
+
+-- n characters from a place
+abbrev pub part : List ℕ → ℕ → ℕ → List ℕ
+part s at n = take n (drop at s)
+
+abbrev pub accountIn : List ℕ → Bk → List ℕ
+accountIn s p = map valueOf (part s (p .offsetting .account) 12)
+
+abbrev pub tableIn : List ℕ → Bk → List ℕ
+tableIn s p = map valueOf (part s (p .offsetting .table) 16)
+
+abbrev pub validationIn : List ℕ → Bk → List ℕ
+validationIn s p = part s (p .offsetting .validation) (p .offsetting .width)
+
+-- ---- the asking call
+
+-- "the 8-byte block that the key box must encipher under the PVK"
+unfoldable pub bkAsk : Settings → List ℕ → ℕ → Outcome (List ℕ)
+bkAsk settings s at =
+    andThen (outcome (bkFields (settings .restricted) s at))
+    (λ p. andThen (validationRow (accountIn s p) (validationIn s p))
+    (λ ns. done (packs ns)))
+
+-- ---- the answering call
+
+-- "the block (20 or 24), 81, 86": the offset's digits
+unfoldable pub bkFinish : Bool → List ℕ → Bk → List ℕ × List ℕ → Outcome (List ℕ)
+bkFinish variable s p rows =
+    andThen (pinWithNatural (p .sealed .format) (tableIn s p) (rows .0, accountIn s p, rows .1))
+    (λ pair. andThen (offsetFor variable (p .offsetting .check) pair)
+    (λ offset. unless Weak86 (not (isOn (pair .0) (weakPins (p .weak) s))) offset))
+
+-- the fields, then "two slices that are not 8 bytes long (15), 10, 11", then the finish: the offset's digits and the place of the
+-- trailer's mark
+unfoldable pub bkAnswer : Settings → Bool → Bool → List ℕ → ℕ → List ℕ → List ℕ → Outcome (List ℕ × ℕ)
+bkAnswer settings pinKeyGood pvkGood s at block enciphered =
+    andThen (outcome (bkFields (settings .restricted) s at))
+    (λ p. andThen (boxed pinKeyGood pvkGood block enciphered)
+    (λ rows. andThen (bkFinish (settings .variable) s p rows)
+    (λ offset. done (offset, p .trailer))))
+
+-- what stands behind 00: the offset, "left in 12 characters, filled with F", and "a trailer, with its 19 mark": what the command has
+-- from the mark on
+abbrev pub bkPayload : List ℕ → List ℕ × ℕ → List ℕ
+bkPayload s answer = offsetText (answer .0) ++ drop (answer .1) s

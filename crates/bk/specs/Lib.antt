@@ -1,0 +1,2 @@
+pub mod Bk
+pub mod Answers

@@ -1,0 +1,190 @@
+// The BK command: its stages joined, and its finish.
+ghost use mathlib.Core.Path.{_≡_};
+ghost use mathlib.Core.List.{map};
+ghost use Prim.Native.Nat.{_+_, _≤_};
+ghost use lib.ListN.{length, drop};
+ghost use Rattle.nibbles.specs.Nibbles.{word, row};
+ghost use Rattle.alphabet.specs.Alphabet.{valueOf};
+ghost use Rattle.blocks.specs.Answers.{blockOf};
+ghost use Rattle.pins.specs.Answers.{readingOf};
+ghost use Rattle.bk.specs.Bk.{bkFields, part, bkAsk, bkFinish, bkAnswer};
+ghost use Rattle.bk.specs.Answers.{bkRead, fieldsRefusal, finishedOf, refusalIn, Placed};
+use fields::Cursor;
+use fields::Fault;
+use keys::Use;
+use numbers::Refusal;
+use offsets::Comparison;
+use offsets::Rows;
+use pins::Pin;
+use pins::Reading;
+use pins::Row;
+use settings::Settings;
+use stages::BoxRead;
+use stages::Boxed;
+use stages::End;
+use stages::KeysRead;
+use stages::Offsetting;
+use stages::OffsettingRead;
+use stages::Sealed;
+use stages::SealedRead;
+use stages::WeakStage;
+use weak::Weak;
+
+// "ours is the semicolon"
+const WEAK_MARK: u8 = b';';
+
+// The fields of a BK: places, and the few values that its finish needs.
+pub struct Bk {
+    pub sealed: Sealed,
+    pub offsetting: Offsetting,
+    pub weak: Weak,
+    pub trailer: usize,
+}
+
+pub enum BkRead {
+    Got(Bk),
+    Bad(Fault),
+}
+
+// An offset and the place of the trailer's mark, or the refusal.
+pub enum Finished {
+    Offset(Pin, usize),
+    Bad(Refusal),
+}
+
+impl BkRead {
+    // Why there are no fields, as the host meets it; asked only where there are none.
+    pub fn refusal(self) -> Refusal
+        ensures { λ r. ⌜ r ≡ fieldsRefusal self ⌝ }
+    {
+        match self {
+            BkRead::Got(_) => Refusal::Field15,
+            BkRead::Bad(fault) => fault.refusal,
+        }
+    }
+}
+
+impl Finished {
+    // Why there is no offset; asked only where there is none.
+    pub fn refusal(self) -> Refusal
+        ensures { λ r. ⌜ r ≡ refusalIn self ⌝ }
+    {
+        match self {
+            Finished::Offset(_, _) => Refusal::Field15,
+            Finished::Bad(q) => q,
+        }
+    }
+}
+
+// The fields behind the command code, from the left.
+pub fn read(restricted: bool, command: &[u8], start: Cursor) -> BkRead
+    ensures { λ r. ⌜ r ≡ bkRead (bkFields restricted (now (command .entry)) (start .at)) ⌝ }
+{
+    let keyed = stages::read_keys(command, start, 1, Use::PinKey, Use::Pvk);
+    let KeysRead::Got(keys, at_block) = keyed else {
+        return BkRead::Bad(keyed.fault());
+    };
+    let blocked = stages::read_sealed(command, at_block, 4, restricted);
+    let SealedRead::Got(sealed, at_check) = blocked else {
+        return BkRead::Bad(blocked.fault());
+    };
+    let data = stages::read_offsetting(command, at_check, 6);
+    let OffsettingRead::Got(offsetting, at_weak) = data else {
+        return BkRead::Bad(data.fault());
+    };
+    let listed = stages::read_weak(command, at_weak, 10, WEAK_MARK);
+    let WeakStage::Got(weak, at_end) = listed else {
+        return BkRead::Bad(listed.fault());
+    };
+    let ended = stages::read_end(command, at_end, 11, keys);
+    let End::At(trailer) = ended else {
+        return BkRead::Bad(ended.fault());
+    };
+    BkRead::Got(Bk {
+        sealed,
+        offsetting,
+        weak,
+        trailer,
+    })
+}
+
+// The values of the digits at a place.
+fn digits_at(command: &[u8], from: usize, n: usize) -> u64
+    requires { ⌜ (n ≤ 16) × (from + n ≤ length (now command)) ⌝ }
+    ensures { λ r. ⌜ r ≡ word (map valueOf (part (now (command .entry)) from n)) ⌝ }
+{
+    let to = from + n;
+    pins::values(&command[from..to])
+}
+
+// Judges the asking call behind the command code, and makes the validation block.
+pub fn ask(settings: Settings, command: &[u8], start: Cursor) -> Row
+    ensures { λ r. ⌜ r ≡ blockOf (bkAsk settings (now (command .entry)) (start .at)) ⌝ }
+{
+    let fields = read(settings.restricted, command, start);
+    let BkRead::Got(bk) = fields else {
+        return Row::Refused(fields.refusal());
+    };
+    let data = bk.offsetting;
+    let account = digits_at(command, data.account, 12);
+    let from = data.validation;
+    let to = from + data.width;
+    validation::validation_row(account, &command[from..to])
+}
+
+// The block, 81, 86: the offset's digits.
+fn finish(variable: bool, command: &[u8], bk: Bk, boxed: Boxed) -> Reading
+    requires { ⌜ Placed (now command) bk ⌝ }
+    ensures { λ r. ⌜ r ≡ readingOf (bkFinish variable (now (command .entry)) bk (row 16 (boxed .block), row 16 (boxed .enciphered))) ⌝ }
+{
+    let data = bk.offsetting;
+    let sealed = bk.sealed;
+    let format = sealed.format;
+    let rows = Rows {
+        block: boxed.block,
+        account: digits_at(command, data.account, 12),
+        enciphered: boxed.enciphered,
+    };
+    let table = digits_at(command, data.table, 16);
+    let comparison = offsets::with_natural(format, table, rows);
+    let Comparison::Of(pair) = comparison else {
+        return Reading::Bad(comparison.refusal());
+    };
+    let made = offsets::offset_for(variable, data.check as u32, pair);
+    let Reading::Got(offset) = made else {
+        return Reading::Bad(Refusal::Check81);
+    };
+    let n = pair.length;
+    if weak::is_weak(bk.weak, command, n, pair.pin) {
+        return Reading::Bad(Refusal::Weak86);
+    }
+    Reading::Got(offset)
+}
+
+// Judges the answering call behind the command code: the fields, the key box's answers, the finish.
+pub fn answer(
+    settings: Settings,
+    pinkey: bool,
+    pvk: bool,
+    command: &[u8],
+    start: Cursor,
+    block: &[u8],
+    enciphered: &[u8],
+) -> Finished
+    ensures { λ r. ⌜ r ≡ finishedOf (bkAnswer settings pinkey pvk (now (command .entry)) (start .at) (now (block .entry)) (now (enciphered .entry))) ⌝ }
+{
+    // The server hands the command in again, so nothing of the asking call is relied on.
+    let reread = read(settings.restricted, command, start);
+    let BkRead::Got(bk) = reread else {
+        return Finished::Bad(reread.refusal());
+    };
+    let answered = stages::key_box(pinkey, pvk, block, enciphered);
+    let BoxRead::Got(boxed) = answered else {
+        return Finished::Bad(answered.refusal());
+    };
+    let finished = finish(settings.variable, command, bk, boxed);
+    let Reading::Got(offset) = finished else {
+        return Finished::Bad(finished.refusal());
+    };
+    Finished::Offset(offset, bk.trailer)
+}
