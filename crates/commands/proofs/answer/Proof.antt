@@ -1,0 +1,84 @@
+-- `commands::answer` meets its contract.
+-- Assumes nothing.
+use native.Mathlib.Omega.{arith}
+use mathlib.Core.Path.{ap, sym, _∙_, subst}
+use lib.ListN.{length, drop}
+use borrow.Author.Tests.{not-true, not-false}
+use Prim.Native.Nat.{_+_}
+use Rattle.numbers.specs.declared.Refusal.the-variants.{Room901, Frame902}
+use Rattle.frame.specs.Frame.{codeOf}
+use Rattle.frame.proofs.Laws.{framed-bounds}
+use Rattle.commands.specs.Commands.{commanded}
+use Rattle.commands.specs.Answers.{payloadOf, Short}
+use Rattle.commands.proofs.Laws.{short-answer, payload-answer, answered-901, answered-902, answered-framed, does-nothing, does-answered, responds-as}
+use borrow.Author.Needs.{needs}
+use Rattle.commands.proofs.answer.Statement.{statement}
+use Rattle.commands.proofs.answer.Tie as tie
+
+refused-requires : tie.Need-refused-requires
+refused-requires c κs = search needs
+
+returns : tie.Need-returns
+returns c =
+    let a = c .before .before .before .before .before .before .args in
+    let room = length (a .out .now) in
+    does-nothing (a .settings) (a .pinkey) (a .pvk) (a .command .now) (a .block .now) (a .enciphered .now) room Room901 (a .out .now) (c .refused .result)
+    (answered-901 (a .settings) (a .pinkey) (a .pvk) (a .command .now) (a .block .now) (a .enciphered .now) room (c .before .if1 .taken)) (c .refused .ensures .0) (c .refused .ensures .1)
+
+is-framed-requires : tie.Need-is-framed-requires
+is-framed-requires c κs = search needs
+
+refused-requires-2 : tie.Need-refused-requires-2
+refused-requires-2 c κs = search needs
+
+returns-2 : tie.Need-returns-2
+returns-2 c =
+    let a = c .before .before .before .before .before .before .before .before .args in
+    let room = length (a .out .now) in
+    does-nothing (a .settings) (a .pinkey) (a .pvk) (a .command .now) (a .block .now) (a .enciphered .now) room Frame902 (a .out .now) (c .refused2 .result)
+    (answered-902 (a .settings) (a .pinkey) (a .pvk) (a .command .now) (a .block .now) (a .enciphered .now) room (c .before .before .before .if1 .left) (sym (c .before .before .is-framed .ensures) ∙ not-true (c .before .before .is-framed .result) (c .before .if2 .taken)))
+    (c .refused2 .ensures .0) (c .refused2 .ensures .1)
+
+answer-by-requires : tie.Need-answer-by-requires
+answer-by-requires c κs =
+    let a = c .before .before .before .before .before .before .before .args in
+    framed-bounds (a .settings .header) (a .command .now) (sym (c .before .is-framed .ensures) ∙ not-false (c .before .is-framed .result) (c .if2 .left)) .2
+
+respond-requires : tie.Need-respond-requires
+respond-requires c κs =
+    let a = c .before .before .before .before .before .before .before .before .before .args in
+    let s = a .command .now in
+    let at = a .settings .header in
+    let bounds = framed-bounds at s (sym (c .before .before .before .is-framed .ensures) ∙ not-false (c .before .before .before .is-framed .result) (c .before .before .if2 .left)) in (
+      record { framed = bounds .0; coded = bounds .2; roomy = omega arith },
+      subst (Short s) (sym (c .before .answer-by .ensures)) (short-answer (codeOf (drop at s)) (a .settings) (a .pinkey) (a .pvk) s (at + 2) (a .block .now) (a .enciphered .now)),
+    )
+
+same-length : tie.Need-same-length
+same-length c = search needs
+
+returns-3 : tie.Need-returns-3
+returns-3 c =
+    let a = c .before .before .before .before .before .before .before .before .before .before .before .before .args in
+    let s = a .command .now in
+    let at = a .settings .header in
+    let room = length (a .out .now) in
+    let framed = sym (c .before .before .before .before .before .before .is-framed .ensures) ∙ not-false (c .before .before .before .before .before .before .is-framed .result) (c .before .before .before .before .before .if2 .left) in
+    let payload = ap (payloadOf s) (c .before .before .before .before .answer-by .ensures) ∙ payload-answer (codeOf (drop at s)) (a .settings) (a .pinkey) (a .pvk) s (at + 2) (a .block .now) (a .enciphered .now) in
+    does-answered (a .settings) (a .pinkey) (a .pvk) s (a .block .now) (a .enciphered .now) room (commanded (a .settings) (a .pinkey) (a .pvk) s (a .block .now) (a .enciphered .now) at) (a .out .now) _ _
+    (answered-framed (a .settings) (a .pinkey) (a .pvk) s (a .block .now) (a .enciphered .now) room (c .before .before .before .before .before .before .before .if1 .left) framed)
+    (responds-as at s (a .out .now) _ _ _ _ payload (c .before .before .respond .ensures))
+
+pub answer-spec : {M : Type 1} → statement M
+answer-spec =
+    tie.close
+    (tie.spec
+    refused-requires
+    returns
+    is-framed-requires
+    refused-requires-2
+    returns-2
+    answer-by-requires
+    respond-requires
+    same-length
+    returns-3)
