@@ -108,6 +108,32 @@ static qg_reply make_pvv_verdict(const struct call_args *args)
 		RUN(args->runs[2]), RUN(args->runs[3]));
 }
 
+static qg_reply make_ask(const struct call_args *args)
+{
+	return qg_ask(settings_of(args->numbers), RUN(args->runs[0]), RUN(args->out));
+}
+
+static qg_reply make_answer(const struct call_args *args)
+{
+	const uint64_t *parities = args->numbers + SETTINGS_NUMBERS;
+
+	return qg_answer(settings_of(args->numbers), (uint8_t)parities[0],
+		(uint8_t)parities[1], RUN(args->runs[0]), RUN(args->runs[1]),
+		RUN(args->runs[2]), RUN(args->out));
+}
+
+/* It takes nothing and gives settings: a case's numbers are those that it must
+ * give, and a reply is made here, 00 where it gives them and 01 where not. */
+static qg_reply make_usual(const struct call_args *args)
+{
+	qg_settings expected = settings_of(args->numbers), got = qg_usual();
+	bool same = got.header == expected.header &&
+		got.restricted == expected.restricted && got.variable == expected.variable;
+	qg_reply reply = { .number = same ? 0 : 1, .written = 0 };
+
+	return reply;
+}
+
 #define SETTINGS { "header", 8 }, { "restricted", 1 }, { "variable", 1 }
 
 const struct call calls[] = {
@@ -137,6 +163,13 @@ const struct call calls[] = {
 	{ 12, "pvv_verdict", { { "format", 4 }, { "index", 4 } },
 		{ "block", "account", "enciphered", "pvv" }, false,
 		make_pvv_verdict },
+	{ 13, "ask", { SETTINGS },
+		{ "command" }, true, make_ask },
+	{ 14, "answer", { SETTINGS, { "pin_key_parity_good", 1 },
+		{ "pvk_parity_good", 1 } },
+		{ "command", "pin_block", "enciphered" }, true, make_answer },
+	{ 15, "usual", { SETTINGS },
+		{ NULL }, false, make_usual },
 };
 
 const size_t calls_len = sizeof calls / sizeof calls[0];

@@ -5,7 +5,8 @@
  *   header    8 bytes "QGCASES1"
  *   a case    u8   code of the call, not 0
  *             u8   n, then n times u64: the numbers in the order of the C
- *                  face, a settings struct as header, restricted, variable
+ *                  face, a settings struct as header, restricted, variable;
+ *                  of the usual settings, those that must be handed back
  *             u8   r, then r times u32 length and bytes: the runs in the same
  *                  order, the output not among them
  *             u8   1 where the call is lent an output, else 0

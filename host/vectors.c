@@ -96,6 +96,7 @@ int main(void)
 	block_vectors();
 	offset_vectors();
 	pvv_vectors();
+	command_vectors();
 	printf("vectors: %u passed, %u failed\n", passed, failed);
 	return failed == 0 && passed > 0 ? 0 : 1;
 }

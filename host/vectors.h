@@ -16,7 +16,7 @@
 
 /* An output of this many bytes is lent, longer than any call needs, so that
  * the bytes that must keep their values are seen. */
-#define LENT 16
+#define LENT 80
 #define UNTOUCHED 0xA5
 
 /* Room for the words that say what was done. */
@@ -61,5 +61,6 @@ void hold_verdict(const char *deed, const char *source, qg_reply reply,
 void block_vectors(void);
 void offset_vectors(void);
 void pvv_vectors(void);
+void command_vectors(void);
 
 #endif

@@ -20,6 +20,8 @@
  *
  * What the bytes of a run are:
  *
+ *   - A command and a response are the bytes on the line, without the two
+ *     length bytes before them.
  *   - Blocks, enciphered blocks and fill are plain bytes; nibbles count from
  *     the left, the high half of a byte before its low half.
  *   - An account is characters, '0' to '9' (30 to 39 hex), as in a command:
@@ -55,11 +57,17 @@
  *
  * Each call judges what it was handed in a fixed order and answers the number
  * of the first fault. The order is listed with the call: of several faults the
- * one listed first decides. The numbers that occur below:
+ * one listed first decides. The numbers:
  *
  *    00   done; of a verdict: the PIN verifies
  *    01   of a verdict: the PIN does not verify
- *    15   a block, an enciphered block or fill that is not 8 bytes; an account
+ *    03   a command's weak PIN count is not two digits, or its list has fewer
+ *         digits than count times length
+ *    10   the parity of the PIN key is bad
+ *    11   the parity of the PVK is bad
+ *    15   a command's field short, of a wrong alphabet or outside its range,
+ *         anything left over behind the last, or LMK ids that disagree; a
+ *         block, an enciphered block or fill that is not 8 bytes; an account
  *         that is not 12 digit characters; a table that is not 16 characters;
  *         validation data, an offset or a PVV malformed; a check length
  *         outside 4 to 12; a key index over 6
@@ -69,17 +77,27 @@
  *    24   PIN length outside 4 to 12, that of a PIN handed in too; a natural
  *         PIN handed in with another length than its PIN
  *    25   a decimalisation table holds a character that is not a digit
+ *    26   key scheme letter, key block version or key block length wrong
+ *    29   usage, algorithm or mode of a key block not permitted
+ *    68   command code other than BK
  *    69   format known but not built, or not allowed here
  *    81   check length longer than the PIN, or an offset with another number
  *         of digits than it must cover
+ *    86   the PIN is on the command's weak list
  *   901   lent output too short
+ *   902   no frame: header setting over 16, command over 4096 bytes or under
+ *         header + 2, or a header byte outside 20 to 7E hex
  *
- * Below the command level any number but 00 means that nothing was written,
- * and `written` is 0. After 00 the call has written the first `written` bytes
- * of `out`, and the bytes of `out` behind them keep the values they had. A
- * verdict is lent no output and writes nothing, for 00 neither.
+ * qg_ask and qg_answer take a host command. The calls declared behind them are
+ * those below the command level.
  *
- * Every call that this header declares is below the command level.
+ * For qg_ask and below the command level any number but 00 means that nothing
+ * was written, and `written` is 0. After 00 the call has written the first
+ * `written` bytes of `out`, and the bytes of `out` behind them keep the values
+ * they had. A verdict is lent no output and writes nothing, for 00 neither.
+ *
+ * qg_answer writes a response for every number but 901 and 902: its refusals
+ * are responses too. What it writes is listed with it.
  */
 
 #ifndef QUILLGIMLET_H
@@ -95,8 +113,9 @@ extern "C" {
 /*
  * The settings of the box, passed by value.
  *
- *   header       length of a command's header in bytes, 0 to 16; usual 4.
- *                No call below the command level reads it.
+ *   header       length of a command's header in bytes, 0 to 16; usual 4. A
+ *                value over 16 is 902 where a command is judged. No call below
+ *                the command level reads it.
  *   restricted   restricted formats; usual No. Below the command level only
  *                qg_translate reads it.
  *   variable     variable length offset; usual No. Below the command level
@@ -115,13 +134,204 @@ typedef struct {
  *
  *   number    one of the numbers above.
  *   written   how many bytes, digits, characters or differences the call
- *             wrote at the start of the lent output. Below the command level
- *             it is 0 for every number but 00, and for every verdict.
+ *             wrote at the start of the lent output. It is 0 for every number
+ *             but 00, and for every verdict; of qg_answer it is the length of
+ *             the response, and 0 for 901 and 902 alone.
  */
 typedef struct {
 	uint32_t number;
 	uint32_t written;
 } qg_reply;
+
+/*
+ * The usual settings: header 4, restricted 0, variable 0. The call takes
+ * nothing, judges nothing and writes nothing.
+ */
+qg_settings qg_usual(void);
+
+
+/* ======================================================================
+ * Host commands
+ *
+ * One command is built: BK, the offset for a terminal PIN. It takes two calls.
+ *
+ *   1. The server hands the command to qg_ask, which writes the block that the
+ *      key box must encipher under the PVK.
+ *   2. The key box enciphers that block, deciphers the command's PIN block
+ *      under the PIN key and judges the parity of both keys.
+ *   3. The server hands the command to qg_answer again, with what the key box
+ *      made of it, and qg_answer writes the response.
+ *
+ * Neither call leans on the other: each reads and judges the whole command.
+ * Key unwrapping and the authentication of key blocks are the key box's.
+ *
+ * A command is read from the left. The two length bytes that stand before it
+ * on the line are the server's affair and no part of it. "Printable" is 20 to
+ * 7E hex; hex letters are capitals.
+ *
+ *        header       printable, as many as the setting says
+ *        code         two characters: BK
+ *    1   key type     three characters: 001, 002 or FFF
+ *    2   PIN key      for 001 and 002 'U' and 32 hex, or 'T' and 48 hex; for
+ *                     FFF 'S' and a key block
+ *    3   PVK          the same; 'U' in one and 'T' in the other will do
+ *    4   PIN block    16 hex: the block as it came, enciphered. No call looks
+ *                     into it.
+ *    5   format       two digits
+ *    6   check        two digits: the check length, 04 to 12
+ *    7   account      12 digits
+ *    8   table        16 digits: the decimalisation table
+ *    9   validation   beginning with 'P': it and 16 hex; else 12 characters,
+ *                     eleven hex and exactly one 'N'
+ *   10   weak PINs    optional: ';' and a count of two digits; where that is
+ *                     not 00, the length of an entry in two digits, 04 to 12,
+ *                     and the list, count times length digits
+ *   11   LMK id       optional: '%' and 00 to 09
+ *   12   trailer      optional: byte 19 hex and 0 to 32 printable characters;
+ *                     ';' and '%' are text in it
+ *
+ * A key block is printable. Its bytes count from 0, behind the letter 'S':
+ *
+ *    0       version, '0' or '1'
+ *    1-4     length in four digits, 0016 to 0512, the version counted in
+ *    5-6     usage:      P0, 71 or 72 of the PIN key; V1 of the PVK
+ *    7       algorithm:  T
+ *    8       mode:       B, D or N of the PIN key; C, G or N of the PVK
+ *    9-13    not judged, beyond that they are printable
+ *    14-15   LMK id, 00 to 09
+ *    16-     whatever follows to the length
+ *
+ * How both calls judge the fields: from the left, the first fault deciding,
+ * and in each part a missing character before a wrong one.
+ *
+ *    field 1      15   short, or none of the three
+ *    2, then 3    15   the letter is missing
+ *                 26   the letter is not one that the key type wants
+ *                      behind 'U' or 'T':
+ *                 15   characters are missing, or one of them is not hex
+ *                      behind 'S':
+ *                 15   version and length have not five characters
+ *                 26   the version or the length is wrong
+ *                 15   the block ends before its length, or a character of it
+ *                      is not printable
+ *                 29   usage, algorithm or mode is not permitted
+ *                 15   the LMK id is not 00 to 09
+ *    4            15   short, or a character is not hex
+ *    5            15   short, or not two digits
+ *                 23   the code is unknown
+ *                 69   the format is 41, 42 or 48; or `restricted` is Yes and
+ *                      it is neither 01 nor 47
+ *    6            15   short, or not 04 to 12
+ *    7            15   short, or a character is not a digit
+ *    8            15   short
+ *                 25   a character is not a digit
+ *    9            15   short, or of neither form
+ *    10           03   the count is short or not two digits
+ *                 15   the length is short or not 04 to 12
+ *                 03   the list is short, or a character of it is not a digit
+ *    11           15   short, or not 00 to 09
+ *    12           15   over 32 characters, or one that is not printable, a
+ *                      second 19 hex included
+ *    the end      15   anything else behind the last field
+ *                 15   the LMK ids of fields 2, 3 and 11, as many as there
+ *                      are, do not all agree
+ *
+ * With the usual settings, for the command
+ *
+ *    HDR1 BK 001
+ *    U00000000000000000000000000000000
+ *    U00000000000000000000000000000000
+ *    0000000000000000 01 04 400000123456
+ *    0123456789012345 0123456789AN
+ *
+ * (in one run, without the spaces) qg_ask writes 01 23 45 67 89 A2 34 56. With
+ * good parities, the PIN block 05 34 16 7F FF ED CB A9 and an enciphered block
+ * that begins 9F 3C 0A 71 qg_answer writes HDR1BL009247FFFFFFFF: header,
+ * response code, 00, offset.
+ */
+
+/*
+ * Reads a command and writes the block that the key box must encipher under
+ * the PVK: the command's validation data, as qg_validation_block makes it.
+ *
+ *   settings               `header` and `restricted` are read
+ *   command, command_len   the command, header included
+ *   out, out_len           where the block goes: 8 bytes or more
+ *
+ * Numbers, in the order of judging:
+ *
+ *   901   out_len is under 8
+ *   902   `header` is over 16, command_len is over 4096 or under header + 2,
+ *         or a byte of the header is not printable
+ *    68   the command code is not BK
+ *    15, 26, 29, 23, 69, 25, 03   the fields, judged as listed above
+ *    00   the block is in out
+ *
+ * On 00 it writes the 8 bytes of the block, and `written` is 8. All later
+ * bytes of out keep their values. For any other number it writes nothing, and
+ * `written` is 0.
+ */
+qg_reply qg_ask(qg_settings settings,
+	const uint8_t *command, size_t command_len,
+	uint8_t *out, size_t out_len);
+
+/*
+ * Takes a command with what the key box made of it, and writes the response.
+ *
+ *   settings                     all three of them are read
+ *   pin_key_parity_good          the key box's answer on the PIN key: 0 is
+ *                                bad, any other value good
+ *   pvk_parity_good              the same on the PVK
+ *   command, command_len         the command, header included
+ *   pin_block, pin_block_len     the command's PIN block, deciphered: 8 bytes
+ *   enciphered, enciphered_len   the block that qg_ask wrote, enciphered: 8
+ *                                bytes
+ *   out, out_len                 where the response goes: 65 bytes or more,
+ *                                whatever the length of the response
+ *
+ * Numbers, in the order of judging. Frame, code and fields are judged here
+ * again as qg_ask judges them, whether it was called or not:
+ *
+ *   901   out_len is under 65
+ *   902   `header` is over 16, command_len is over 4096 or under header + 2,
+ *         or a byte of the header is not printable
+ *    68   the command code is not BK
+ *    15, 26, 29, 23, 69, 25, 03   the fields, judged as listed above
+ *    15   pin_block_len is not 8, or enciphered_len is not 8
+ *    10   pin_key_parity_good is 0
+ *    11   pvk_parity_good is 0
+ *    20, 24, 20   the PIN block, judged in the command's format and with its
+ *         account as qg_read_block does
+ *    81   the check length is longer than the PIN; never where `variable` is
+ *         Yes
+ *    86   an entry of the weak list is the PIN: of the PIN's length and digit
+ *         for digit. An entry of another length never is.
+ *    00   the offset is in the response
+ *
+ * What it writes:
+ *
+ *   901 and 902    nothing, and `written` is 0. Every byte of out keeps its
+ *                  value.
+ *   other numbers  header, response code, and the number in two digits;
+ *   but 00         `written` is header + 4. No trailer, whatever the command
+ *                  carries.
+ *   00             header, response code, 00, and the offset in 12 characters,
+ *                  digits and then 'F', as qg_offset makes it; where the
+ *                  command carries a trailer, its mark 19 hex and its
+ *                  characters follow, also where these are none. `written` is
+ *                  header + 16, and with a trailer 1 more and its length.
+ *
+ * All later bytes of out keep their values, those up to the sixty-fifth too.
+ * The response code is the command code with its second byte raised by one,
+ * 255 becoming 0: BL for BK. Beside 68 it is that of the code that came. There
+ * is no verdict here: 01 is never answered.
+ */
+qg_reply qg_answer(qg_settings settings,
+	uint8_t pin_key_parity_good, uint8_t pvk_parity_good,
+	const uint8_t *command, size_t command_len,
+	const uint8_t *pin_block, size_t pin_block_len,
+	const uint8_t *enciphered, size_t enciphered_len,
+	uint8_t *out, size_t out_len);
 
 
 /* ======================================================================

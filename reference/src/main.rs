@@ -29,6 +29,5 @@ fn run(arguments: &[String]) -> Result<String, String> {
     let part = Part::of_name(part).ok_or(USAGE)?;
     let seed = seed.parse().map_err(|_| "SEED is a number")?;
     let count = count.parse().map_err(|_| "COUNT is a number")?;
-    let tally = cases::make(part, file, seed, count).map_err(|fault| format!("{file}: {fault}"))?;
-    Ok(tally.to_string())
+    cases::make(part, file, seed, count).map(|tally| tally.to_string())
 }

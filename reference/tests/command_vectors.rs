@@ -292,6 +292,19 @@ fn weak_pins() {
     assert_eq!(number(b";0106345670"), 0);
 }
 
+/// The last of 99 entries of each length counts, and one entry fewer than the count is 03.
+#[test]
+fn the_longest_weak_lists() {
+    for length in 4..=12 {
+        let entries = [vec![b'1'; 98 * length], b"345670000000"[..length].to_vec()].concat();
+        let list = [format!(";99{length:02}").into_bytes(), entries].concat();
+        let number =
+            |list: &[u8]| Command::of_the_paper().with(OPTIONS, list).answered(usual()).0.number;
+        assert_eq!(number(&list), if length == 5 { 86 } else { 0 });
+        assert_eq!(number(&list[..list.len() - 1]), 3);
+    }
+}
+
 /// "Optional byte 19 hex and a trailer of 0 to 32 printable characters"; it comes back with 00.
 #[test]
 fn trailers() {
@@ -336,6 +349,20 @@ fn the_answering_calls_own_judgements() {
     assert_eq!(number([true, true], P2), 81);
     let variable = Settings { variable: true, ..usual() };
     assert_eq!(answered(variable, [true, true], &command, &bytes(P2)).0.number, 86);
+}
+
+/// "two slices that are not 8 bytes long (15)": either of them, before 10.
+#[test]
+fn slices() {
+    let command = Command::of_the_paper().bytes();
+    let slice = |length| [bytes(P2), bytes(P9)].concat()[..length].to_vec();
+    for (block, enciphered) in [(0, 8), (7, 8), (9, 8), (8, 0), (8, 7), (8, 9), (7, 9)] {
+        let mut out = [UNTOUCHED; 65];
+        let (block, enciphered) = (slice(block), slice(enciphered));
+        let reply = answer(usual(), false, false, &command, &block, &enciphered, &mut out);
+        assert_eq!(reply, Reply { number: 15, written: 8 });
+        assert_eq!(&out[..8], b"HDR1BL15");
+    }
 }
 
 /// "BK allows all six, or restricted only 01 and 47."

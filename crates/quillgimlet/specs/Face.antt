@@ -1,6 +1,6 @@
 -- The settings as the server hands them over: a flag is a byte, and every value of it has an answer.
 use Prim.Native.Nat.{ℕ}
-use mathlib.Core.Bool.{Bool, not}
+use mathlib.Core.Bool.{Bool, true, false, not}
 use lib.Dec.{eqb}
 use Rattle.settings.specs.declared.Settings.{Settings}
 use Rattle.quillgimlet.specs.declared.FaceSettings.{FaceSettings}
@@ -12,3 +12,11 @@ yes? flag = not (eqb flag 0)
 -- the box's settings
 abbrev pub settingsOf : FaceSettings → Settings
 settingsOf s = record { header = s .header; restricted = yes? (s .restricted); variable = yes? (s .variable) }
+
+-- and back: what the server is handed
+abbrev pub flagOf : Bool → ℕ
+flagOf true = 1
+flagOf false = 0
+
+abbrev pub faceOf : Settings → FaceSettings
+faceOf s = record { header = s .header; restricted = flagOf (s .restricted); variable = flagOf (s .variable) }

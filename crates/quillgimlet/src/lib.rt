@@ -9,7 +9,9 @@ ghost use Rattle.validation.specs.Validation.{validationBlock};
 ghost use Rattle.ibm3624.specs.Ibm3624.{naturalPin};
 ghost use Rattle.offsets.specs.Offsets.{offsetMade, offsetOfDigits, differencesOf, offsetVerdict};
 ghost use Rattle.pvv.specs.Pvv.{pvvInput, pvvMade, pvvVerdict};
-ghost use Rattle.quillgimlet.specs.Face.{yes?, settingsOf};
+ghost use Rattle.settings.specs.Settings.{usually};
+ghost use Rattle.commands.specs.Commands.{asked, answered};
+ghost use Rattle.quillgimlet.specs.Face.{yes?, settingsOf, flagOf, faceOf};
 use numbers::Reply;
 use settings::Settings;
 
@@ -29,6 +31,54 @@ fn inner(s: FaceSettings) -> Settings
         restricted: s.restricted != 0,
         variable: s.variable != 0,
     }
+}
+
+fn flag(yes: bool) -> u8
+    ensures { λ r. ⌜ r ≡ flagOf yes ⌝ }
+{
+    if yes { 1 } else { 0 }
+}
+
+#[no_mangle]
+pub extern "C" fn qg_usual() -> FaceSettings
+    ensures { λ r. ⌜ r ≡ faceOf usually ⌝ }
+{
+    let usual = Settings::usual();
+    FaceSettings {
+        header: usual.header,
+        restricted: flag(usual.restricted),
+        variable: flag(usual.variable),
+    }
+}
+
+#[no_mangle]
+pub extern "C" fn qg_ask(settings: FaceSettings, command: &[u8], out: &mut [u8]) -> Reply
+    ensures { λ r. ⌜ Does (quietly (asked (settingsOf settings) (now (command .entry)) (length (now (out .entry))))) (now (out .entry)) r (now (out .exit)) ⌝ }
+{
+    commands::ask(inner(settings), command, out)
+}
+
+#[no_mangle]
+pub extern "C" fn qg_answer(
+    settings: FaceSettings,
+    pinkey: u8,
+    pvk: u8,
+    command: &[u8],
+    block: &[u8],
+    enciphered: &[u8],
+    out: &mut [u8],
+) -> Reply
+    ensures { λ r. ⌜ Does (answered (settingsOf settings) (yes? pinkey) (yes? pvk) (now (command .entry)) (now (block .entry)) (now (enciphered .entry)) (length (now (out .entry)))) (now (out .entry)) r (now (out .exit)) ⌝ }
+{
+    commands::answer(
+        inner(settings),
+        pinkey != 0,
+        pvk != 0,
+        command,
+        block,
+        enciphered,
+        out,
+    )
 }
 
 #[no_mangle]

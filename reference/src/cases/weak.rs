@@ -19,8 +19,8 @@ impl WeakList {
     pub fn near(dice: &mut Dice, pin: &[u8]) -> WeakList {
         let count = match dice.below(20) {
             0 | 1 => 0,
-            2..=10 => 1,
-            11 => 99,
+            2..=9 => 1,
+            10 => 99,
             _ => dice.between(2, 8),
         };
         if count == 0 {
@@ -28,11 +28,11 @@ impl WeakList {
         }
         let length = if dice.chance(40) { pin.len() } else { dice.between(4, 12) };
         let mut list = dice.characters(count * length, DIGITS);
-        put_near_miss(dice, &mut list, length, pin);
+        put_near_miss(dice, &mut list, length, &characters(pin));
         WeakList { count: two_digits(count), length: two_digits(length), list }
     }
 
-    /// A list that holds the PIN.
+    /// A list that holds the PIN, first, last or between.
     pub fn with_pin(dice: &mut Dice, pin: &[u8]) -> WeakList {
         let length = pin.len();
         let count = dice.pick(&[1, 1, 2, 3, 5, 99]);
@@ -79,27 +79,40 @@ impl WeakList {
 }
 
 fn characters(pin: &[u8]) -> Vec<u8> {
-    pin.iter().map(|digit| b'0' + digit % 10).collect()
+    pin.iter().map(|digit| b'0' + digit).collect()
 }
 
-/// The PIN's beginning or end as an entry, a longer entry that begins or ends with the PIN, or
-/// the PIN across two entries.
+/// One entry that a careless comparison takes for the PIN.
 fn put_near_miss(dice: &mut Dice, list: &mut [u8], length: usize, pin: &[u8]) {
-    let pin = characters(pin);
-    let entries = list.len() / length;
-    let start = dice.below(entries) * length;
-    let shared = length.min(pin.len());
-    match dice.below(4) {
-        _ if length == pin.len() => put_across(list, &pin),
-        0 => list[start..start + shared].copy_from_slice(&pin[..shared]),
-        1 => list[start..start + shared].copy_from_slice(&pin[pin.len() - shared..]),
-        2 => list[start + length - shared..start + length].copy_from_slice(&pin[..shared]),
-        _ => put_across(list, &pin),
+    let entry = dice.below(list.len() / length) * length;
+    if dice.chance(20) {
+        put_between_entries(dice, list, pin);
+    } else if length == pin.len() {
+        put_all_but_one_digit(dice, &mut list[entry..entry + length], pin);
+    } else {
+        put_shared_part(dice, &mut list[entry..entry + length], pin);
     }
 }
 
-fn put_across(list: &mut [u8], pin: &[u8]) {
-    if list.len() > pin.len() {
-        list[1..=pin.len()].copy_from_slice(pin);
+/// The PIN from the list's first or second digit on, over the borders of entries.
+fn put_between_entries(dice: &mut Dice, list: &mut [u8], pin: &[u8]) {
+    let first = dice.below(2);
+    if let Some(place) = list.get_mut(first..first + pin.len()) {
+        place.copy_from_slice(pin);
     }
+}
+
+/// Another PIN of the same length: its first, its last or any other digit is another one.
+fn put_all_but_one_digit(dice: &mut Dice, entry: &mut [u8], pin: &[u8]) {
+    entry.copy_from_slice(pin);
+    let place = dice.pick(&[0, pin.len() - 1, pin.len() / 2]);
+    entry[place] = b'0' + (entry[place] - b'0' + dice.between(1, 9) as u8) % 10;
+}
+
+/// The PIN's beginning or end as a shorter entry; a longer one that begins or ends with the PIN.
+fn put_shared_part(dice: &mut Dice, entry: &mut [u8], pin: &[u8]) {
+    let shared = entry.len().min(pin.len());
+    let part = if dice.chance(50) { &pin[..shared] } else { &pin[pin.len() - shared..] };
+    let first = if dice.chance(50) { 0 } else { entry.len() - shared };
+    entry[first..first + shared].copy_from_slice(part);
 }

@@ -1,0 +1,227 @@
+//! Damage to the fields of a command, and to what the key box hands over with it.
+
+use super::case::Call;
+use super::dice::Dice;
+use super::draft::{printable, two_digits, yes, Draft, LMK_MARK, TRAILER_MARK};
+use super::keys::{self, Place};
+use super::parts;
+use super::validation;
+use super::weak::WeakList;
+
+/// How many kinds of damage are of use to an asking call too, and how many more are judged after
+/// the fields, by the answering call alone.
+const OF_FIELDS: usize = 26;
+const OF_KEY_BOX: usize = 13;
+
+impl Draft {
+    /// One damage.
+    pub fn damage(&mut self, dice: &mut Dice) {
+        let kinds = if self.call == Call::Ask { OF_FIELDS } else { OF_FIELDS + OF_KEY_BOX };
+        match dice.below(kinds) {
+            0 => self.out = parts::short_out(dice, self.call),
+            1 => self.damage_frame(dice),
+            2 => self.code = code(dice),
+            3 => self.key_type = key_type(dice),
+            4..=6 => keys::damage(dice, &self.key_type, Place::PinKey, &mut self.pin_key),
+            7..=9 => keys::damage(dice, &self.key_type, Place::Pvk, &mut self.pvk),
+            10 => self.damage_pin_block_field(dice),
+            11 => self.format = wrong_format(dice),
+            12 => self.format = two_digits(dice.pick(&parts::UNBUILT_CODES)),
+            13 => self.restrict(dice),
+            14 => self.format = two_digits(dice.pick(&parts::BUILT_CODES)),
+            15 => self.check = wrong_check(dice),
+            16 => parts::damage_digit_character(dice, &mut self.account),
+            17 => parts::damage_digit_character(dice, &mut self.table),
+            18 => validation::damage(dice, &mut self.validation),
+            19 | 20 => self.damage_weak_list(dice),
+            21 => self.damage_lmk(dice),
+            22 => self.disagree(dice),
+            23 => self.damage_trailer(dice),
+            24 => self.leave_over(dice),
+            25 => self.lengthen(dice),
+            _ => self.damage_key_box(dice),
+        }
+    }
+
+    /// What the answering call judges after the fields.
+    fn damage_key_box(&mut self, dice: &mut Dice) {
+        match dice.below(OF_KEY_BOX) {
+            0 => self.pin_block = slice(dice),
+            1 => self.enciphered = slice(dice),
+            2 => (self.pin_block, self.enciphered) = (slice(dice), slice(dice)),
+            3 => self.parities[0] = 0,
+            4 => self.parities[1] = 0,
+            5 => self.parities = [0, 0],
+            6 => self.check_too_long(dice),
+            7 => self.check = two_digits(dice.between(4, 12) as u64),
+            8 | 9 => self.weak = Some(WeakList::with_pin(dice, &self.pin)),
+            _ => self.damage_block(dice),
+        }
+    }
+
+    fn damage_block(&mut self, dice: &mut Dice) {
+        let code = self.format.iter().fold(0, |code, &digit| 10 * code + u64::from(digit & 0xF));
+        parts::damage_block(dice, code, &self.account, &mut self.pin_block);
+    }
+
+    /// No check length is longer than a PIN of 12 digits.
+    fn check_too_long(&mut self, dice: &mut Dice) {
+        self.settings[2] = 0;
+        self.check = two_digits(dice.between(self.pin.len().min(11) + 1, 12) as u64);
+    }
+
+    /// A header setting over 16, one that is not the header's length, or a byte that no header
+    /// has.
+    fn damage_frame(&mut self, dice: &mut Dice) {
+        match dice.below(4) {
+            0 => self.settings[0] = dice.pick(&[17, 18, 64, 4096, 1 << 32, 1 << 63, u64::MAX]),
+            1 => self.settings[0] = dice.below(18) as u64,
+            2 => {
+                self.settings[0] = 17;
+                self.header = printable(dice, 17);
+            }
+            _ if self.header.is_empty() => {}
+            _ => {
+                let place = dice.below(self.header.len());
+                self.header[place] = dice.pick(&[0x00, 0x19, 0x1F, 0x20, 0x7E, 0x7F, 0x80, 0xFF]);
+            }
+        }
+    }
+
+    fn damage_pin_block_field(&mut self, dice: &mut Dice) {
+        match dice.below(3) {
+            0 => parts::damage_length(dice, &mut self.enciphered_pin_block),
+            _ if self.enciphered_pin_block.is_empty() => {}
+            _ => {
+                let place = dice.below(self.enciphered_pin_block.len());
+                self.enciphered_pin_block[place] = dice.pick(b"abcdefG@/:`g \x00\xFF");
+            }
+        }
+    }
+
+    /// Any built format under the restricted setting.
+    fn restrict(&mut self, dice: &mut Dice) {
+        self.settings[1] = yes(dice);
+        self.format = two_digits(dice.pick(&parts::BUILT_CODES));
+    }
+
+    /// Most often as the command's last field, so that its end can be missing.
+    fn damage_weak_list(&mut self, dice: &mut Dice) {
+        let mut weak = self.weak.take().unwrap_or_else(|| WeakList::near(dice, &self.pin));
+        weak.damage(dice);
+        self.weak = Some(weak);
+        if dice.chance(60) {
+            self.lmk.clear();
+            self.trailer.clear();
+        }
+    }
+
+    /// An id that is no id, in any of its three places.
+    fn damage_lmk(&mut self, dice: &mut Dice) {
+        let wrong = dice.pick(&[b"10", b"A0", b"0A", b"0/", b"0:", b"99", b" 0", b"0 "]);
+        match dice.below(6) {
+            0 => keys::put_lmk(&mut self.pin_key, wrong),
+            1 => keys::put_lmk(&mut self.pvk, wrong),
+            2 | 3 => self.lmk = [&[LMK_MARK], &wrong[..]].concat(),
+            _ => {
+                self.lmk = dice.pick(&[&b"%"[..], b"%0"]).to_vec();
+                if dice.chance(60) {
+                    self.trailer.clear();
+                }
+            }
+        }
+    }
+
+    /// Ids that do not all agree: between the keys alone, or between any of the three places.
+    fn disagree(&mut self, dice: &mut Dice) {
+        let one = dice.below(10) as u8;
+        let other = (one + dice.between(1, 9) as u8) % 10;
+        let third = dice.below(10) as u8;
+        let [pin_key, pvk, own] = dice.pick(&[
+            [one, other, one],
+            [one, other, other],
+            [one, one, other],
+            [one, other, third],
+        ]);
+        self.key_type = b"FFF".to_vec();
+        self.pin_key = keys::whole(dice, b"FFF", Place::PinKey, pin_key);
+        self.pvk = keys::whole(dice, b"FFF", Place::Pvk, pvk);
+        self.lmk = vec![LMK_MARK, b'0', b'0' + own];
+        if pin_key != pvk && dice.chance(40) {
+            self.lmk.clear();
+        }
+    }
+
+    /// Lengths about the longest, and characters about the printable ones, a second mark included.
+    fn damage_trailer(&mut self, dice: &mut Dice) {
+        let length = dice.pick(&[0, 1, 31, 32, 32, 33, 33, 34, 40]);
+        self.trailer = dice.characters(length, b"AZaz09 ~;%");
+        self.trailer.insert(0, TRAILER_MARK);
+        if length > 0 && dice.chance(50) {
+            let place = dice.between(1, length);
+            self.trailer[place] =
+                dice.pick(&[0x00, 0x18, 0x19, 0x19, 0x1F, 0x20, 0x7E, 0x7F, 0x80, 0xFF]);
+        }
+    }
+
+    /// Something behind the last field, or the optional fields in another order.
+    fn leave_over(&mut self, dice: &mut Dice) {
+        match dice.below(3) {
+            0 => {
+                let count = dice.between(1, 3);
+                self.trailer.extend(dice.characters(count, b"A0;%\x19\x00"));
+            }
+            1 => self.lmk.extend(dice.pick(&[&b"%00"[..], b";00", b";01041234", b"0"])),
+            _ => std::mem::swap(&mut self.lmk, &mut self.trailer),
+        }
+    }
+
+    /// To the longest command, or a little beyond.
+    fn lengthen(&mut self, dice: &mut Dice) {
+        let length = dice.pick(&[4095, 4096, 4096, 4096, 4097, 4097, 4097, 4098, 5000]);
+        let missing = usize::saturating_sub(length, self.length());
+        let filling = dice.pick(b"A0\x00\xFF");
+        self.trailer.resize(self.trailer.len() + missing, filling);
+    }
+}
+
+/// A slice of another length than 8, or of 8 random bytes.
+fn slice(dice: &mut Dice) -> Vec<u8> {
+    let length = dice.pick(&[0, 0, 7, 7, 7, 8, 9, 9, 9, 1, 15, 16, 17]);
+    dice.bytes(length)
+}
+
+fn code(dice: &mut Dice) -> Vec<u8> {
+    let codes: [&[u8]; 10] =
+        [b"BL", b"CK", b"bk", b"Bk", b"bK", b"\xFFK", b"\x00\x00", b"KB", b"EE", b"BJ"];
+    match dice.below(10) {
+        0..=5 => dice.pick(&codes).to_vec(),
+        6 => b"B\xFF".to_vec(),
+        7 => vec![dice.byte(), 0xFF],
+        8 => vec![b'B', dice.byte()],
+        _ => dice.bytes(2),
+    }
+}
+
+fn key_type(dice: &mut Dice) -> Vec<u8> {
+    let types: [&[u8]; 14] = [
+        b"000", b"003", b"FFE", b"fff", b"FFf", b"01", b"0001", b"F00", b"00F", b"FF1", b"0\x001",
+        b"001", b"002", b"FFF",
+    ];
+    dice.pick(&types).to_vec()
+}
+
+fn wrong_format(dice: &mut Dice) -> Vec<u8> {
+    match dice.below(3) {
+        0 => dice.pick(&[b"0A", b"A1", b" 1", b"1 ", b":1", b"0\x00", b"/5", b"3\xFF"]).to_vec(),
+        _ => two_digits(parts::unknown_code(dice) % 100),
+    }
+}
+
+fn wrong_check(dice: &mut Dice) -> Vec<u8> {
+    let checks: [&[u8]; 15] = [
+        b"00", b"01", b"02", b"03", b"03", b"13", b"13", b"14", b"20", b"99", b"4 ", b" 4", b"0:",
+        b"0A", b"4",
+    ];
+    dice.pick(&checks).to_vec()
+}

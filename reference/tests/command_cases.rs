@@ -1,0 +1,444 @@
+//! What the cases of the two command calls hold: each kind of command that matters must be among
+//! them. The cases are looked at from outside, by a walk of this file's own.
+
+use reference::cases::case::{Call, Case};
+use reference::cases::dice::Dice;
+use reference::cases::tally::Tally;
+use reference::cases::{command_bytes, commands, scarce, Part, MANY_CASES, OF_EACH_ANSWER};
+use std::collections::BTreeSet;
+use std::ops::RangeInclusive;
+use std::sync::OnceLock;
+
+const COUNT: u64 = 200_000;
+
+/// A command case, walked over as far as it looks like a command.
+struct Seen {
+    call: Call,
+    numbers: Vec<u64>,
+    runs: Vec<Vec<u8>>,
+    lent: usize,
+    number: u32,
+    walked: Option<Walked>,
+}
+
+struct Walked {
+    key_type: Vec<u8>,
+    pin_key: Vec<u8>,
+    pvk: Vec<u8>,
+    format: u32,
+    check: u64,
+    account: Vec<u8>,
+    first_of_validation: u8,
+    weak: Option<Weak>,
+    lmk: Option<Vec<u8>>,
+    trailer: Option<Vec<u8>>,
+}
+
+/// A list of none has no length.
+struct Weak {
+    count: u64,
+    length: u64,
+    entries: Vec<u8>,
+}
+
+fn seen(case: Case) -> Seen {
+    let number = case.answer().reply.number;
+    let walked = walk(case.numbers[0] as usize, &case.runs[0]);
+    let lent = case.out.expect("both calls are lent output").len();
+    Seen { call: case.call, numbers: case.numbers, runs: case.runs, lent, number, walked }
+}
+
+/// Drawn once, for all tests of this file.
+fn all_seen() -> &'static [Seen] {
+    static CASES: OnceLock<Vec<Seen>> = OnceLock::new();
+    CASES.get_or_init(|| {
+        let mut dice = Dice::new(11);
+        (1..COUNT).map(|index| seen(commands::case(&mut dice, index))).collect()
+    })
+}
+
+/// Takes characters off the front.
+fn take<'a>(rest: &mut &'a [u8], count: usize) -> Option<&'a [u8]> {
+    let (taken, left) = rest.split_at_checked(count)?;
+    *rest = left;
+    Some(taken)
+}
+
+fn number_of(characters: &[u8]) -> Option<u64> {
+    std::str::from_utf8(characters).ok()?.parse().ok()
+}
+
+fn key(rest: &mut &[u8]) -> Option<Vec<u8>> {
+    let length = match rest.first()? {
+        b'U' => 33,
+        b'T' => 49,
+        b'S' => 1 + number_of(rest.get(2..6)?)? as usize,
+        _ => return None,
+    };
+    take(rest, length).map(<[u8]>::to_vec)
+}
+
+fn walk(header: usize, command: &[u8]) -> Option<Walked> {
+    let rest = &mut command.get(header.checked_add(2)?..)?;
+    let key_type = take(rest, 3)?.to_vec();
+    let (pin_key, pvk) = (key(rest)?, key(rest)?);
+    take(rest, 16)?;
+    let format = number_of(take(rest, 2)?)? as u32;
+    let check = number_of(take(rest, 2)?)?;
+    let account = take(rest, 12)?.to_vec();
+    take(rest, 16)?;
+    let first_of_validation = *rest.first()?;
+    take(rest, if first_of_validation == b'P' { 17 } else { 12 })?;
+    let weak = if rest.starts_with(b";") { Some(weak_list(rest)?) } else { None };
+    let lmk = if rest.starts_with(b"%") { Some(take(rest, 3)?[1..].to_vec()) } else { None };
+    let trailer = rest.strip_prefix(b"\x19").map(<[u8]>::to_vec);
+    Some(Walked {
+        key_type,
+        pin_key,
+        pvk,
+        format,
+        check,
+        account,
+        first_of_validation,
+        weak,
+        lmk,
+        trailer,
+    })
+}
+
+fn weak_list(rest: &mut &[u8]) -> Option<Weak> {
+    let count = number_of(&take(rest, 3)?[1..])?;
+    if count == 0 {
+        return Some(Weak { count, length: 0, entries: vec![] });
+    }
+    let length = number_of(take(rest, 2)?)?;
+    let entries = take(rest, (count * length) as usize)?.to_vec();
+    Some(Weak { count, length, entries })
+}
+
+/// The set of what a question finds in the cases.
+fn set<'a, T: Ord>(
+    cases: impl IntoIterator<Item = &'a Seen>,
+    question: impl Fn(&'a Seen) -> Option<T>,
+) -> BTreeSet<T> {
+    cases.into_iter().filter_map(question).collect()
+}
+
+/// The same of a walked command.
+fn walked_set<'a, T: Ord>(
+    cases: impl IntoIterator<Item = &'a Seen>,
+    question: impl Fn(&'a Walked) -> T,
+) -> BTreeSet<T> {
+    set(cases, |case| case.walked.as_ref().map(&question))
+}
+
+fn with_number(cases: &[Seen], number: u32) -> impl Iterator<Item = &Seen> {
+    cases.iter().filter(move |case| case.number == number)
+}
+
+fn assert_holds<T: Ord + Copy + std::fmt::Debug>(set: &BTreeSet<T>, wanted: &[T]) {
+    for value in wanted {
+        assert!(set.contains(value), "{value:?} is not among the cases");
+    }
+}
+
+fn every<T>(range: RangeInclusive<T>) -> Vec<T>
+where
+    RangeInclusive<T>: Iterator<Item = T>,
+{
+    range.collect()
+}
+
+#[test]
+fn what_is_handed_over() {
+    let cases = all_seen();
+    let of_call = |call| move |case: &Seen| (case.call == call).then_some(case.lent);
+    assert_holds(&set(cases, of_call(Call::Ask)), &[0, 7, 8, 9, 16]);
+    assert_holds(&set(cases, of_call(Call::Answer)), &[0, 8, 64, 65, 66, 73]);
+    for place in [0, 1] {
+        let lengths = set(cases, |case| case.runs.get(1 + place).map(Vec::len));
+        assert_holds(&lengths, &[0, 7, 8, 9]);
+        let parities = set(cases, |case| case.numbers.get(3 + place).copied());
+        assert_eq!(parities.len(), 256);
+        let flags = set(cases, |case| Some(case.numbers[1 + place]));
+        assert_eq!(flags.len(), 256);
+    }
+    let answered = cases.iter().filter(|case| case.call == Call::Answer);
+    let kinds = set(answered, |case| Some([case.numbers[3] != 0, case.numbers[4] != 0]));
+    assert_eq!(kinds.len(), 4);
+}
+
+#[test]
+fn frames() {
+    let cases = all_seen();
+    let headers = |number| set(with_number(cases, number), |case| Some(case.numbers[0]));
+    assert_eq!(Vec::from_iter(headers(0)), every(0..=16));
+    assert_eq!(Vec::from_iter(headers(68)), every(0..=16));
+    assert_holds(&headers(902), &every(1..=18));
+    assert_holds(&headers(902), &[1 << 32, u64::MAX]);
+    let lengths = |number| set(with_number(cases, number), |case| Some(case.runs[0].len()));
+    assert_holds(&lengths(15), &[4095, 4096]);
+    assert_holds(&lengths(902), &[0, 1, 2, 5, 4097, 4098]);
+    let second =
+        set(with_number(cases, 68), |case| case.runs[0].get(case.numbers[0] as usize + 1).copied());
+    assert_holds(&second, &[0x00, b'J', b'K', b'L', b'k', 0xFF]);
+}
+
+#[test]
+fn keys_that_are_whole() {
+    let cases = all_seen();
+    let whole = || with_number(cases, 0);
+    let letters =
+        walked_set(whole(), |command| (command.key_type[2], [command.pin_key[0], command.pvk[0]]));
+    for key_type in *b"12" {
+        for pair in [*b"UU", *b"UT", *b"TU", *b"TT"] {
+            assert!(letters.contains(&(key_type, pair)));
+        }
+    }
+    assert_eq!(letters.len(), 9);
+    let blocks = || {
+        let is_block = |case: &&Seen| case.walked.as_ref().is_some_and(|it| it.pvk[0] == b'S');
+        whole().filter(is_block)
+    };
+    let pin_key_uses = walked_set(blocks(), |command| &command.pin_key[6..10]);
+    let pvk_uses = walked_set(blocks(), |command| &command.pvk[6..10]);
+    assert_eq!((pin_key_uses.len(), pvk_uses.len()), (9, 3));
+    let lengths = walked_set(blocks(), |command| command.pin_key.len() - 1);
+    assert_holds(&lengths, &[16, 17, 512]);
+    let lengths = walked_set(blocks(), |command| command.pvk.len() - 1);
+    assert_holds(&lengths, &[16, 17, 512]);
+    assert_eq!(walked_set(blocks(), |command| &command.pvk[1..2]).len(), 2);
+    assert_eq!(walked_set(blocks(), |command| &command.pvk[15..17]).len(), 10);
+}
+
+/// The first key field's characters behind its letter, whatever follows.
+fn pin_key_from(case: &Seen, first: usize, count: usize) -> Option<&[u8]> {
+    let key = (case.numbers[0] as usize).checked_add(5)?;
+    case.runs[0].get(key + first..key + first + count)
+}
+
+#[test]
+fn keys_that_are_refused() {
+    let cases = all_seen();
+    let letters = set(with_number(cases, 26), |case| pin_key_from(case, 0, 1));
+    assert_holds(&letters, &[b"U", b"T", b"S", b"X", b"u", b"s"].map(|letter| &letter[..]));
+    let lengths = set(with_number(cases, 26), |case| pin_key_from(case, 2, 4));
+    assert_holds(&lengths, &[&b"0015"[..], b"0513", b"9999"]);
+    let small = with_number(cases, 15).filter(|case| {
+        let hex = pin_key_from(case, 1, 32).unwrap_or(b"");
+        pin_key_from(case, 0, 1) == Some(b"U") && hex.iter().any(u8::is_ascii_lowercase)
+    });
+    assert!(small.count() >= 100);
+    let refused = with_number(cases, 29);
+    let uses = walked_set(refused, |command| [&command.pin_key[6..10], &command.pvk[6..10]]);
+    for place in [0, 1] {
+        let usages: BTreeSet<_> = uses.iter().map(|pair| &pair[place][..2]).collect();
+        assert_holds(&usages, &[&b"P0"[..], b"71", b"72", b"V1", b"V2", b"p0", b"70"]);
+        let algorithms: BTreeSet<_> = uses.iter().map(|pair| pair[place][2]).collect();
+        assert_holds(&algorithms, b"TADt");
+        let modes: BTreeSet<_> = uses.iter().map(|pair| pair[place][3]).collect();
+        assert_holds(&modes, b"BCDEGNX");
+    }
+}
+
+/// Which of the three places disagree, and that all of them are refused.
+#[test]
+fn lmk_ids() {
+    let cases = all_seen();
+    let mut disagreeing = BTreeSet::new();
+    for case in with_number(cases, 15) {
+        let Some(command) = &case.walked else { continue };
+        if command.pin_key[0] == b'S' && command.pvk[0] == b'S' {
+            let (pin_key, pvk) = (&command.pin_key[15..17], &command.pvk[15..17]);
+            let own = command.lmk.as_deref();
+            let with_own = own.map(|own| [own == pin_key, own == pvk]);
+            disagreeing.insert((pin_key == pvk, with_own));
+        }
+    }
+    assert_holds(&disagreeing, &[(false, None), (true, Some([false, false]))]);
+    assert_holds(&disagreeing, &[(false, Some([true, false])), (false, Some([false, true]))]);
+    assert_holds(&disagreeing, &[(false, Some([false, false]))]);
+}
+
+#[test]
+fn formats() {
+    let cases = all_seen();
+    let met = |number| {
+        set(with_number(cases, number), |case| {
+            let command = case.walked.as_ref()?;
+            Some((case.numbers[1] != 0, case.numbers[2] != 0, command.format))
+        })
+    };
+    for variable in [false, true] {
+        for format in [1, 3, 5, 34, 35, 47] {
+            assert_holds(&met(0), &[(false, variable, format)]);
+            let number = if matches!(format, 1 | 47) { 0 } else { 69 };
+            assert_holds(&met(number), &[(true, variable, format)]);
+        }
+        for restricted in [false, true] {
+            assert_holds(&met(69), &[41, 42, 48].map(|format| (restricted, variable, format)));
+            assert_holds(&met(23), &[0, 2, 33, 99].map(|format| (restricted, variable, format)));
+        }
+    }
+}
+
+/// The PIN in an answering case's clear block, as characters.
+fn pin(case: &Seen) -> Option<Vec<u8>> {
+    let command = case.walked.as_ref()?;
+    let mut pin = [0; 12];
+    let block = case.runs.get(1)?;
+    let reply = reference::read_block(command.format, block, &command.account, &mut pin);
+    let digits = &pin[..reply.written as usize];
+    (reply.number == 0).then(|| digits.iter().map(|digit| b'0' + digit).collect())
+}
+
+/// Check lengths on both sides of PIN lengths, with offsets of either kind.
+#[test]
+fn check_lengths() {
+    let cases = all_seen();
+    let met = |number, variable| {
+        let met = with_number(cases, number).filter(|case| (case.numbers[2] != 0) == variable);
+        set(met, |case| Some((pin(case)?.len() as u64, case.walked.as_ref()?.check)))
+    };
+    let (plain, too_long, variable) = (met(0, false), met(81, false), met(0, true));
+    for pin in 4..=12 {
+        for check in 4..=12 {
+            assert!(variable.contains(&(pin, check)));
+            assert_eq!(plain.contains(&(pin, check)), check <= pin);
+            assert_eq!(too_long.contains(&(pin, check)), check > pin);
+        }
+    }
+    assert!(met(81, true).is_empty());
+}
+
+#[test]
+fn weak_lists() {
+    let cases = all_seen();
+    let met = |number| {
+        let lists =
+            with_number(cases, number).filter_map(|case| case.walked.as_ref()?.weak.as_ref());
+        lists.map(|list| (list.count, list.length)).collect::<BTreeSet<_>>()
+    };
+    assert_holds(&met(0), &[(0, 0)]);
+    for length in 4..=12 {
+        assert_holds(&met(0), &[(1, length), (99, length)]);
+        assert_holds(&met(86), &[(1, length), (99, length)]);
+    }
+}
+
+/// Entries that are not the PIN and must not be taken for it.
+#[test]
+fn near_misses_of_weak_pins() {
+    let mut kinds = [0; 6];
+    for case in with_number(all_seen(), 0) {
+        let Some(pin) = pin(case) else { continue };
+        let Some(Weak { count: 1.., length, entries: list }) =
+            case.walked.as_ref().and_then(|command| command.weak.as_ref())
+        else {
+            continue;
+        };
+        let length = *length as usize;
+        let entries = || list.chunks(length);
+        let (shorter, longer) = (length < pin.len(), length > pin.len());
+        let all_but_last = &pin[..pin.len() - 1];
+        let found = [
+            shorter && entries().any(|entry| pin.starts_with(entry)),
+            shorter && entries().any(|entry| pin.ends_with(entry)),
+            longer && entries().any(|entry| entry.starts_with(&pin)),
+            longer && entries().any(|entry| entry.ends_with(&pin)),
+            length == pin.len() && entries().any(|entry| entry.starts_with(all_but_last)),
+            length == pin.len() && list.windows(length).any(|place| place == pin),
+        ];
+        kinds.iter_mut().zip(found).for_each(|(kind, found)| *kind += u32::from(found));
+    }
+    assert!(kinds.iter().all(|&kind| kind >= 100), "{kinds:?}");
+}
+
+#[test]
+fn the_ends_of_commands() {
+    let cases = all_seen();
+    let trailers = |number| {
+        walked_set(with_number(cases, number), |command| command.trailer.as_ref().map(Vec::len))
+    };
+    assert_eq!(trailers(0).len(), 1 + 33);
+    assert_holds(&trailers(15), &[Some(33), Some(34)]);
+    let holding = |number, character: u8| {
+        let trailers = with_number(cases, number).filter_map(|case| case.walked.as_ref());
+        trailers.filter_map(|command| command.trailer.as_ref()).any(|it| it.contains(&character))
+    };
+    assert!(holding(0, b';') && holding(0, b'%') && holding(15, 0x19) && !holding(0, 0x19));
+    let forms = walked_set(with_number(cases, 0), |command| command.first_of_validation);
+    assert_holds(&forms, b"PN0F");
+}
+
+/// A command of a hundred bytes is changed in one of them, sooner or later in each.
+#[test]
+fn one_byte_changes() {
+    let mut dice = Dice::new(5);
+    let whole = dice.bytes(100);
+    let mut places = BTreeSet::new();
+    for _ in 0..5000 {
+        let mut command = whole.clone();
+        command_bytes::change_one(&mut dice, &mut command);
+        let changed: Vec<usize> =
+            (0..100).filter(|&place| command[place] != whole[place]).collect();
+        assert_eq!(changed.len(), 1);
+        places.insert(changed[0]);
+    }
+    assert_eq!(places.len(), 100);
+}
+
+/// Every cut leaves another command, shorter than it was or one character longer.
+#[test]
+fn cut_fields() {
+    let mut dice = Dice::new(6);
+    let mut lengths = BTreeSet::new();
+    for _ in 0..5000 {
+        let mut command = (0..20).collect();
+        command_bytes::cut_at_a_field(&mut dice, &[4, 6, 6, 9, 20], &mut command);
+        lengths.insert(command.len());
+    }
+    assert_eq!(Vec::from_iter(lengths), every(0..=21));
+}
+
+/// The asking and the answering call judge frame and fields alike; only behind the fields the
+/// answering call goes on by itself.
+#[test]
+fn both_calls_judge_alike() {
+    for case in all_seen().iter().filter(|case| case.number != 901 && case.call == Call::Answer) {
+        let settings = reference::Settings::of_face(
+            case.numbers[0] as usize,
+            case.numbers[1] as u8,
+            case.numbers[2] as u8,
+        );
+        let asked = reference::ask(settings, &case.runs[0], &mut [0; 8]).number;
+        if asked == 0 {
+            assert!([0, 10, 11, 15, 20, 24, 81, 86].contains(&case.number));
+        } else {
+            assert_eq!(asked, case.number);
+        }
+    }
+}
+
+/// A file of many cases must hold each answer often; a smaller one need not.
+#[test]
+fn scarce_answers_are_a_fault() {
+    let mut tally = Tally::default();
+    assert!(scarce(Part::Commands, MANY_CASES - 1, &tally).is_empty());
+    assert_eq!(scarce(Part::Commands, MANY_CASES, &tally).len(), 11 + 17);
+    for (call, numbers) in commands::ANSWERS {
+        for &number in numbers {
+            (0..OF_EACH_ANSWER).for_each(|_| tally.count(call, number));
+        }
+    }
+    assert!(scarce(Part::Commands, MANY_CASES, &tally).is_empty());
+    let mut short = Tally::default();
+    for (call, numbers) in commands::ANSWERS {
+        for &number in numbers {
+            let missing = u64::from((call, number) == (Call::Answer, 86));
+            (missing..OF_EACH_ANSWER).for_each(|_| short.count(call, number));
+        }
+    }
+    let lines = scarce(Part::Commands, MANY_CASES, &short);
+    assert_eq!(lines, ["answer answers 86 499 times, not 500"]);
+}
