@@ -175,8 +175,8 @@ qg_settings qg_usual(void);
  *    2   PIN key      for 001 and 002 'U' and 32 hex, or 'T' and 48 hex; for
  *                     FFF 'S' and a key block
  *    3   PVK          the same; 'U' in one and 'T' in the other will do
- *    4   PIN block    16 hex: the block as it came, enciphered. No call looks
- *                     into it.
+ *    4   PIN block    16 hex: the block as it came, enciphered. Beyond that
+ *                     they are hex no call looks at them.
  *    5   format       two digits
  *    6   check        two digits: the check length, 04 to 12
  *    7   account      12 digits
@@ -230,9 +230,10 @@ qg_settings qg_usual(void);
  *                 15   the length is short or not 04 to 12
  *                 03   the list is short, or a character of it is not a digit
  *    11           15   short, or not 00 to 09
- *    12           15   over 32 characters, or one that is not printable, a
- *                      second 19 hex included
- *    the end      15   anything else behind the last field
+ *    12           15   one of its characters is not printable, a second 19
+ *                      hex included
+ *    the end      15   anything behind the last field, a trailer's characters
+ *                      behind the thirty-second included
  *                 15   the LMK ids of fields 2, 3 and 11, as many as there
  *                      are, do not all agree
  *

@@ -48,7 +48,8 @@ validationIn s p = part s (p .offsetting .validation) (p .offsetting .width)
 
 -- ---- the asking call
 
--- "the 8-byte block that the key box must encipher under the PVK"
+-- "the 8-byte block that the key box must encipher under the PVK"; the validation data were judged as a field, so nothing is refused
+-- behind the fields
 unfoldable pub bkAsk : Settings → List ℕ → ℕ → Outcome (List ℕ)
 bkAsk settings s at =
     andThen (outcome (bkFields (settings .restricted) s at))

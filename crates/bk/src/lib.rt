@@ -46,7 +46,7 @@ pub enum BkRead {
     Bad(Fault),
 }
 
-// An offset and the place of the trailer's mark, or the refusal.
+// An offset, whose digits are held as a PIN's are, and the place of the trailer's mark; or the refusal.
 pub enum Finished {
     Offset(Pin, usize),
     Bad(Refusal),
@@ -164,21 +164,21 @@ fn finish(variable: bool, command: &[u8], bk: Bk, boxed: Boxed) -> Reading
 // Judges the answering call behind the command code: the fields, the key box's answers, the finish.
 pub fn answer(
     settings: Settings,
-    pinkey: bool,
-    pvk: bool,
+    pinparity: bool,
+    pvkparity: bool,
     command: &[u8],
     start: Cursor,
     block: &[u8],
     enciphered: &[u8],
 ) -> Finished
-    ensures { λ r. ⌜ r ≡ finishedOf (bkAnswer settings pinkey pvk (now (command .entry)) (start .at) (now (block .entry)) (now (enciphered .entry))) ⌝ }
+    ensures { λ r. ⌜ r ≡ finishedOf (bkAnswer settings pinparity pvkparity (now (command .entry)) (start .at) (now (block .entry)) (now (enciphered .entry))) ⌝ }
 {
     // The server hands the command in again, so nothing of the asking call is relied on.
     let reread = read(settings.restricted, command, start);
     let BkRead::Got(bk) = reread else {
         return Finished::Bad(reread.refusal());
     };
-    let answered = stages::key_box(pinkey, pvk, block, enciphered);
+    let answered = stages::key_box(pinparity, pvkparity, block, enciphered);
     let BoxRead::Got(boxed) = answered else {
         return Finished::Bad(answered.refusal());
     };

@@ -5,6 +5,7 @@ use lib.ListN.{length}
 use Rattle.numbers.specs.Numbers.{Outcome, done, refused}
 use Rattle.pins.specs.declared.Pin.{Pin}
 use Rattle.blocks.specs.Answers.{digitsOf}
+use Rattle.settings.specs.Settings.{longestHeader}
 use Rattle.bk.specs.Bk.{bkPayload}
 use Rattle.bk.specs.declared.Finished.{Finished}
 use Rattle.bk.specs.declared.Finished.the-variants.{Offset, Bad}
@@ -27,6 +28,6 @@ Short s (Bad q) = Unit {0}
 
 -- the header and the code lie in the command, and there is room for the longest response
 pub record Responding (header : ℕ) (s : List ℕ) (room : ℕ) : Type 0 where
-  pub framed : header ≤ 16
+  pub framed : header ≤ longestHeader
   pub coded : header + 2 ≤ length s
   pub roomy : roomToAnswer ≤ room

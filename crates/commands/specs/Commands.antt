@@ -51,7 +51,7 @@ abbrev pub responding : ℕ → List ℕ → Outcome (List ℕ) → Said ℕ
 responding header s (done payload) = record { number = 0; written = opening header s 0 ++ payload }
 responding header s (refused q) = record { number = numberOf q; written = opening header s (numberOf q) }
 
--- "901 and 902 write nothing"
+-- "901 and 902 write nothing"; what comes behind them is said as it is
 abbrev pub silently : Outcome (Said ℕ) → Said ℕ
 silently (done said) = said
 silently (refused q) = quietly (refused q)

@@ -1,6 +1,5 @@
 // The two calls of a host command, whatever its code: the asking and the answering call.
 ghost use mathlib.Core.Path.{_≡_};
-ghost use mathlib.Core.List.{[]};
 ghost use Prim.Native.Nat.{_+_, _≤_};
 ghost use lib.ListN.{length, drop};
 ghost use Rattle.numbers.specs.Promise.{Does, quietly};
@@ -58,21 +57,21 @@ pub fn ask(settings: Settings, command: &[u8], out: &mut [u8]) -> Reply
 // The answering call by the command's code, whose place is given.
 fn answer_by(
     settings: Settings,
-    pinkey: bool,
-    pvk: bool,
+    pinparity: bool,
+    pvkparity: bool,
     command: &[u8],
     code: usize,
     block: &[u8],
     enciphered: &[u8],
 ) -> Finished
     requires { ⌜ code + 2 ≤ length (now command) ⌝ }
-    ensures { λ r. ⌜ r ≡ finishedOf (answerBy (codeOf (drop code (now (command .entry)))) settings pinkey pvk (now (command .entry)) (code + 2) (now (block .entry)) (now (enciphered .entry))) ⌝ }
+    ensures { λ r. ⌜ r ≡ finishedOf (answerBy (codeOf (drop code (now (command .entry)))) settings pinparity pvkparity (now (command .entry)) (code + 2) (now (block .entry)) (now (enciphered .entry))) ⌝ }
 {
     match Code::at(command, code) {
         Code::Bk => bk::answer(
             settings,
-            pinkey,
-            pvk,
+            pinparity,
+            pvkparity,
             command,
             Cursor { at: code + 2 },
             block,
@@ -111,17 +110,17 @@ fn respond(header: usize, command: &[u8], finished: Finished, out: &mut [u8]) ->
     respond_offset(header, command, offset, mark, out)
 }
 
-// Answers a command.
+// From the frame on every number is answered with a response.
 pub fn answer(
     settings: Settings,
-    pinkey: bool,
-    pvk: bool,
+    pinparity: bool,
+    pvkparity: bool,
     command: &[u8],
     block: &[u8],
     enciphered: &[u8],
     out: &mut [u8],
 ) -> Reply
-    ensures { λ r. ⌜ Does (answered settings pinkey pvk (now (command .entry)) (now (block .entry)) (now (enciphered .entry)) (length (now (out .entry)))) (now (out .entry)) r (now (out .exit)) ⌝ }
+    ensures { λ r. ⌜ Does (answered settings pinparity pvkparity (now (command .entry)) (now (block .entry)) (now (enciphered .entry)) (length (now (out .entry)))) (now (out .entry)) r (now (out .exit)) ⌝ }
 {
     if out.len() < ROOM_TO_ANSWER {
         return Reply::refused(Refusal::Room901);
@@ -130,6 +129,14 @@ pub fn answer(
     if !frame::is_framed(header, command) {
         return Reply::refused(Refusal::Frame902);
     }
-    let finished = answer_by(settings, pinkey, pvk, command, header, block, enciphered);
+    let finished = answer_by(
+        settings,
+        pinparity,
+        pvkparity,
+        command,
+        header,
+        block,
+        enciphered,
+    );
     respond(header, command, finished, out)
 }

@@ -1,7 +1,7 @@
 -- The readers' answers as values of the code.
 use Prim.Native.Nat.{ℕ, _+_}
 use mathlib.Core.Bool.{Bool, cond}
-use Rattle.numbers.specs.Numbers.{Outcome, done, refused}
+use Rattle.numbers.specs.Numbers.{done, refused}
 use Rattle.numbers.specs.declared.Refusal.{Refusal}
 use Rattle.numbers.specs.declared.Refusal.the-variants.{Field15}
 use Rattle.fields.specs.Fields.{Found}

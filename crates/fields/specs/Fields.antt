@@ -1,6 +1,6 @@
 -- The fields of a command. A reader looks at the characters ahead of the cursor, and answers with the field's value and how many of
 -- them the field has, or with a refusal.
-use Prim.Native.Nat.{ℕ, _+_, _-_, _*_}
+use Prim.Native.Nat.{ℕ, _+_, _*_}
 use mathlib.Core.List.{List, [], _∷_}
 use mathlib.Core.Bool.{Bool, cond}
 use lib.ListN.{length, getD, take, drop}
@@ -45,17 +45,18 @@ abbrev pub behind : {A : Type 0} → ℕ → Found A → Found A
 behind n (done r) = done (r .0, n + r .1)
 behind n (refused q) = refused q
 
--- "Optional byte 19 hex and a trailer of 0 to 32 printable characters": at most 32, and what is behind them is left over. Its value is
--- how many there are behind the mark
 abbrev pub trailerMark : ℕ
 trailerMark = 0x19
 
 abbrev pub longestTrailer : ℕ
 longestTrailer = 32
 
+-- the lesser of a limit and a number
 abbrev pub atMost : ℕ → ℕ → ℕ
 atMost high n = cond (leb n high) n high
 
+-- "Optional byte 19 hex and a trailer of 0 to 32 printable characters": at most 32 of those ahead, and what is behind them is left
+-- over. Its value, how many there are behind the mark, is asked by nobody
 unfoldable pub trailer : List ℕ → Found ℕ
 trailer cs =
     cond (marked trailerMark cs)
@@ -71,12 +72,12 @@ pub data Stage (A : Type 0) : Type 0 where
 
 -- "the first fault deciding": a refusal carries the field's number and the place where the field begins
 abbrev pub fielded : {A B : Type 0} → ℕ → ℕ → Found A → (A → ℕ → Stage B) → Stage B
-fielded number at (done r) next = next (r .0) (at + r .1)
-fielded number at (refused q) next = faulty (record { refusal = q; field = number; place = at })
+fielded which at (done r) next = next (r .0) (at + r .1)
+fielded which at (refused q) next = faulty (record { refusal = q; field = which; place = at })
 
 -- the field that begins at a place, and what comes next
 abbrev pub field : {A B : Type 0} → ℕ → (List ℕ → Found A) → List ℕ → ℕ → (A → ℕ → Stage B) → Stage B
-field number reader s at next = fielded number at (reader (drop at s)) next
+field which reader s at next = fielded which at (reader (drop at s)) next
 
 -- a stage, and what comes next
 abbrev pub onward : {A B : Type 0} → Stage A → (A → ℕ → Stage B) → Stage B

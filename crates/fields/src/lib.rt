@@ -8,6 +8,10 @@ ghost use Rattle.fields.specs.Answers.{valueFrom, refusalIn, markFrom};
 use alphabet::Class;
 use numbers::Refusal;
 
+const TRAILER_MARK: u8 = 0x19;
+
+const LONGEST_TRAILER: usize = 32;
+
 // Where the next field begins.
 pub struct Cursor {
     pub at: usize,
@@ -73,7 +77,7 @@ fn at_most(high: usize, n: usize) -> usize
 }
 
 impl Cursor {
-    // "03" or "15", but first for what is missing: so many characters of a class.
+    // "Inside a field a missing character is judged before a wrong one": each has its own number, which the field gives.
     pub fn run(
         self,
         command: &[u8],
@@ -131,14 +135,14 @@ impl Cursor {
     pub fn trailer(self, command: &[u8]) -> Value
         ensures { λ r. ⌜ r ≡ valueFrom (self .at) (trailer (drop (self .at) (now (command .entry)))) ⌝ }
     {
-        let marked = self.mark(command, 0x19);
+        let marked = self.mark(command, TRAILER_MARK);
         let Mark::Behind(text) = marked else {
             return Value::Got(0, self);
         };
         let left = alphabet::ahead(command, text.at);
         text.run(
             command,
-            at_most(32, left),
+            at_most(LONGEST_TRAILER, left),
             Class::Printable,
             Refusal::Field15,
             Refusal::Field15,

@@ -11,7 +11,7 @@ use lib.Seq.{length-take-le, take-all, take-at, drop-at, drop-drop, getD-drop}
 use lib.Dec.{leb, eqb}
 use borrow.Author.Tests.{leb-true, eqb-true}
 use Rattle.alphabet.specs.Alphabet.{begins}
-use Rattle.frame.specs.Frame.{isFramed, opening, twoDigit, bk, longestCommand}
+use Rattle.frame.specs.Frame.{isFramed, opening, inTwoDigits, bk, longestCommand}
 use Rattle.settings.specs.Settings.{longestHeader}
 
 -- ---- what a frame has, and what a response opens with
@@ -41,7 +41,7 @@ bk-bytes (a ∷ b ∷ cs) h =
     (sym (eqb-true 0x42 a (p .0)), sym (eqb-true 0x4B b (q .0)))
 
 -- a command BK is answered BL
-pub bk-answers-bl : (header : ℕ) (s : List ℕ) (number : ℕ) → begins bk (drop header s) ≡ true → opening header s number ≡ take header s ++ (0x42 ∷ 0x4C ∷ twoDigit number)
+pub bk-answers-bl : (header : ℕ) (s : List ℕ) (number : ℕ) → begins bk (drop header s) ≡ true → opening header s number ≡ take header s ++ (0x42 ∷ 0x4C ∷ inTwoDigits number)
 unfolding opening
 bk-answers-bl header s number h =
     let p = bk-bytes (drop header s) h in

@@ -20,7 +20,7 @@ unfoldable pub isFramed : ℕ → List ℕ → Bool
 isFramed header s =
     leb header longestHeader && (leb (length s) longestCommand && (leb (header + 2) (length s) && allOf Printable (take header s)))
 
--- 902
+-- 902, or where the command's code stands
 abbrev pub framed : ℕ → List ℕ → Outcome ℕ
 framed header s = unless Frame902 (isFramed header s) header
 
@@ -36,10 +36,10 @@ codeOf cs = cond (begins bk cs) Bk Other
 abbrev pub raised : ℕ → ℕ
 raised c = (c + 1) % 256
 
--- the two-digit number
-abbrev pub twoDigit : ℕ → List ℕ
-twoDigit number = characters (number / 10 % 10 ∷ number % 10 ∷ [])
+-- a number in two digits; asked only under 100
+abbrev pub inTwoDigits : ℕ → List ℕ
+inTwoDigits number = characters (number / 10 % 10 ∷ number % 10 ∷ [])
 
 -- "header, response code and two-digit number". "The response code is the command code with its second byte raised by one"
 unfoldable pub opening : ℕ → List ℕ → ℕ → List ℕ
-opening header s number = take header s ++ (getD s header 0 ∷ raised (getD s (header + 1) 0) ∷ twoDigit number)
+opening header s number = take header s ++ (getD s header 0 ∷ raised (getD s (header + 1) 0) ∷ inTwoDigits number)

@@ -1,6 +1,5 @@
 -- The readers' answers as values of the code.
 use Prim.Native.Nat.{ℕ, _+_}
-use mathlib.Core.Bool.{Bool, true, false}
 use Rattle.numbers.specs.Numbers.{done, refused}
 use Rattle.numbers.specs.declared.Refusal.{Refusal}
 use Rattle.numbers.specs.declared.Refusal.the-variants.{Field15}
@@ -8,7 +7,6 @@ use Rattle.fields.specs.Fields.{Found}
 use Rattle.fields.specs.Answers.{cursorAt}
 use Rattle.keys.specs.declared.Letters.{Letters}
 use Rattle.keys.specs.declared.Lmk.{Lmk}
-use Rattle.keys.specs.declared.Lmk.the-variants.{Absent, Id}
 use Rattle.keys.specs.declared.Typed.{Typed}
 use Rattle.keys.specs.declared.Typed.the-variants as typed
 use Rattle.keys.specs.declared.Keyed.{Keyed}
@@ -28,8 +26,3 @@ keyedFrom at (refused q) = keyed.Bad q
 abbrev pub refusalIn : Keyed → Refusal
 refusalIn (keyed.Got l c) = Field15
 refusalIn (keyed.Bad q) = q
-
--- whether an LMK id is there
-abbrev pub present : Lmk → Bool
-present Absent = false
-present (Id n) = true

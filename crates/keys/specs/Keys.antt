@@ -1,7 +1,7 @@
 -- Fields 1 to 3, key type, PIN key and PVK, and LMK ids. Readers, over the characters ahead.
 use Prim.Native.Nat.{ℕ, _+_, _-_, _*_}
 use mathlib.Core.List.{List, [], _∷_}
-use mathlib.Core.Bool.{Bool, true, _&&_, _||_, cond}
+use mathlib.Core.Bool.{Bool, true, false, _&&_, _||_, cond}
 use lib.ListN.{length, getD, drop}
 use lib.Dec.{leb, eqb}
 use Rattle.nibbles.specs.Nibbles.{within}
@@ -29,7 +29,8 @@ type002 = 0x30 ∷ 0x30 ∷ 0x32 ∷ []
 abbrev pub typeFFF : List ℕ
 typeFFF = 0x46 ∷ 0x46 ∷ 0x46 ∷ []
 
--- "Key type, 3 characters: 001, 002 or FFF, else 15." "Types 001 and 002 want U or T in both; FFF wants S in both"
+-- "Key type, 3 characters: 001, 002 or FFF, else 15." "Types 001 and 002 want U + 32 or T + 48 hex
+-- characters in both; FFF wants S in both": here the letters
 unfoldable pub keyType : List ℕ → Found Letters
 keyType cs =
     cond (begins type001 cs) (done (UOrT, 3))
@@ -46,7 +47,8 @@ hexKey n cs = andThen (run CapitalHex Field15 Field15 n cs) (λ r. done (Absent,
 abbrev pub saidLength : List ℕ → ℕ
 saidLength cs = twoDigits 1 cs * 100 + twoDigits 3 cs
 
--- "its five version and length characters come next": "version 0 or 1, four digits of length, 0016 to 0512 (else 26)"
+-- "its five version and length characters come next": "version 0 or 1, four digits of length, 0016 to
+-- 0512, counted from the version byte (else 26)"
 unfoldable pub blockLength : List ℕ → Found ℕ
 blockLength cs =
     andThen (run Digit Field15 Key26 5 cs)
@@ -118,3 +120,8 @@ abbrev pub agree : Lmk → Lmk → Bool
 agree Absent b = true
 agree (Id m) Absent = true
 agree (Id m) (Id n) = eqb m n
+
+-- whether an LMK id is there
+abbrev pub present : Lmk → Bool
+present Absent = false
+present (Id n) = true

@@ -3,8 +3,8 @@ ghost use mathlib.Core.Path.{_≡_};
 ghost use Prim.Native.Nat.{_+_, _≤_};
 ghost use lib.ListN.{length, drop};
 ghost use Rattle.fields.specs.Answers.{valueFrom};
-ghost use Rattle.keys.specs.Keys.{keyType, hexKey, saidLength, blockLength, usageFor, modeFor, permits, keyBlock, lettered, key, lmkField, agree};
-ghost use Rattle.keys.specs.Answers.{typedFrom, keyedFrom, refusalIn, present};
+ghost use Rattle.keys.specs.Keys.{keyType, hexKey, saidLength, blockLength, usageFor, modeFor, permits, keyBlock, lettered, key, lmkField, agree, present};
+ghost use Rattle.keys.specs.Answers.{typedFrom, keyedFrom, refusalIn};
 use alphabet::Class;
 use fields::Cursor;
 use fields::Mark;
@@ -56,7 +56,7 @@ pub enum Keyed {
 }
 
 impl Keyed {
-    // Why there is no key; asked only where there is none.
+    // Why there is no key or id; asked only where there is none.
     pub fn refusal(self) -> Refusal
         ensures { λ r. ⌜ r ≡ refusalIn self ⌝ }
     {

@@ -23,7 +23,7 @@ those p (x ∷ xs) = cond (p x) (x ∷ those p xs) (those p xs)
 unfoldable pub pvvOf : List ℕ → List ℕ
 pvvOf ns = take 4 (those digit ns ++ map (λ n. n - 10) (those (within 10 15) ns))
 
--- "the last 11 account digits, the key index and the first four PIN digits"
+-- "the last 11 account digits, the key index (0 to 6, else 15) and the first four PIN digits": the digits, where the index is judged
 unfoldable pub inputRow : List ℕ → ℕ → List ℕ → List ℕ
 inputRow account index pin = drop 1 account ++ (index ∷ take 4 pin)
 

@@ -61,19 +61,19 @@ pub extern "C" fn qg_ask(settings: FaceSettings, command: &[u8], out: &mut [u8])
 #[no_mangle]
 pub extern "C" fn qg_answer(
     settings: FaceSettings,
-    pinkey: u8,
-    pvk: u8,
+    pinparity: u8,
+    pvkparity: u8,
     command: &[u8],
     block: &[u8],
     enciphered: &[u8],
     out: &mut [u8],
 ) -> Reply
-    ensures { λ r. ⌜ Does (answered (settingsOf settings) (yes? pinkey) (yes? pvk) (now (command .entry)) (now (block .entry)) (now (enciphered .entry)) (length (now (out .entry)))) (now (out .entry)) r (now (out .exit)) ⌝ }
+    ensures { λ r. ⌜ Does (answered (settingsOf settings) (yes? pinparity) (yes? pvkparity) (now (command .entry)) (now (block .entry)) (now (enciphered .entry)) (length (now (out .entry)))) (now (out .entry)) r (now (out .exit)) ⌝ }
 {
     commands::answer(
         inner(settings),
-        pinkey != 0,
-        pvk != 0,
+        pinparity != 0,
+        pvkparity != 0,
         command,
         block,
         enciphered,

@@ -1,3 +1,4 @@
 pub mod Reading
 pub mod Ending
 pub mod Laws
+pub mod Steady

@@ -13,8 +13,7 @@ use Rattle.pins.specs.Pins.{sized}
 use Rattle.validation.specs.Validation.{letterP, isValidation}
 use Rattle.fields.specs.Fields.{Found, Stage, read, faulty, field, run, number, marked, trailer}
 use Rattle.fields.specs.declared.Fault.{Fault}
-use Rattle.keys.specs.Keys.{keyType, key, lmkField, agree}
-use Rattle.keys.specs.Answers.{present}
+use Rattle.keys.specs.Keys.{keyType, key, lmkField, agree, present}
 use Rattle.keys.specs.declared.Use.{Use}
 use Rattle.keys.specs.declared.Lmk.{Lmk}
 use Rattle.weak.specs.Weak.{weakField}
@@ -50,7 +49,7 @@ formatField restricted cs =
 unfoldable pub sealed : ℕ → Bool → List ℕ → ℕ → Stage Sealed
 sealed first restricted s block =
     field first (run CapitalHex Field15 Field15 16) s block
-    (λ _ format. field (first + 1) (formatField restricted) s format
+    (λ _ formatAt. field (first + 1) (formatField restricted) s formatAt
     (λ f next. read (record { block = block; format = f }) next))
 
 -- ---- Offsetting: check length, account, decimalisation table, validation data
@@ -69,10 +68,10 @@ validationField cs =
 unfoldable pub offsetting : ℕ → List ℕ → ℕ → Stage Offsetting
 offsetting first s at =
     field first (number 4 12 Field15) s at
-    (λ check account. field (first + 1) (run Digit Field15 Field15 12) s account
-    (λ _ table. field (first + 2) (run Digit Field15 Table25 16) s table
-    (λ _ validation. field (first + 3) validationField s validation
-    (λ width next. read (record { check = check; account = account; table = table; validation = validation; width = width }) next))))
+    (λ check accountAt. field (first + 1) (run Digit Field15 Field15 12) s accountAt
+    (λ _ tableAt. field (first + 2) (run Digit Field15 Table25 16) s tableAt
+    (λ _ dataAt. field (first + 3) validationField s dataAt
+    (λ width next. read (record { check = check; account = accountAt; table = tableAt; validation = dataAt; width = width }) next))))
 
 -- ---- Weak: the weak list
 

@@ -295,27 +295,16 @@ pub fn read_offsetting(command: &[u8], start: Cursor, field: usize) -> Offsettin
     requires { ⌜ field ≤ 64 ⌝ }
     ensures { λ r. ⌜ r ≡ offsettingRead (offsetting field (now (command .entry)) (start .at)) ⌝ }
 {
-    let checked = start.number(command, 4, 12, Refusal::Field15);
+    let short = Refusal::Field15;
+    let checked = start.number(command, 4, 12, short);
     let Value::Got(check, account) = checked else {
         return OffsettingRead::Bad(fault_at(Refusal::Field15, field, start));
     };
-    let digits = account.run(
-        command,
-        12,
-        Class::Digit,
-        Refusal::Field15,
-        Refusal::Field15,
-    );
+    let digits = account.run(command, 12, Class::Digit, short, short);
     let Value::Got(_, table) = digits else {
         return OffsettingRead::Bad(fault_at(Refusal::Field15, field + 1, account));
     };
-    let decimals = table.run(
-        command,
-        16,
-        Class::Digit,
-        Refusal::Field15,
-        Refusal::Table25,
-    );
+    let decimals = table.run(command, 16, Class::Digit, short, Refusal::Table25);
     let Value::Got(_, validation) = decimals else {
         return OffsettingRead::Bad(fault_at(decimals.refusal(), field + 2, table));
     };
@@ -392,21 +381,21 @@ pub fn read_end(command: &[u8], start: Cursor, field: usize, keys: Keys) -> End
 }
 
 // The key box's answers: the slices (15), 10, 11.
-pub fn key_box(pinkey: bool, pvk: bool, block: &[u8], enciphered: &[u8]) -> BoxRead
-    ensures { λ r. ⌜ r ≡ boxRead (boxed pinkey pvk (now (block .entry)) (now (enciphered .entry))) ⌝ }
+pub fn key_box(pinparity: bool, pvkparity: bool, block: &[u8], enciphered: &[u8]) -> BoxRead
+    ensures { λ r. ⌜ r ≡ boxRead (boxed pinparity pvkparity (now (block .entry)) (now (enciphered .entry))) ⌝ }
 {
     let sized = pins::sized_row(block, 8);
     let Row::Held(clear) = sized else {
         return BoxRead::Bad(Refusal::Field15);
     };
-    let sealed = pins::sized_row(enciphered, 8);
-    let Row::Held(cipher) = sealed else {
+    let validation = pins::sized_row(enciphered, 8);
+    let Row::Held(cipher) = validation else {
         return BoxRead::Bad(Refusal::Field15);
     };
-    if !pinkey {
+    if !pinparity {
         return BoxRead::Bad(Refusal::PinKeyParity10);
     }
-    if !pvk {
+    if !pvkparity {
         return BoxRead::Bad(Refusal::PvkParity11);
     }
     BoxRead::Got(Boxed {

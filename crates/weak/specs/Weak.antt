@@ -17,7 +17,8 @@ abbrev pub noneAt : ℕ → Weak
 noneAt at = record { count = 0; length = 0; list = at }
 
 -- behind the mark and the count: nothing where the count is 00; else the length, 04 to 12 (15), and as many digits as count times
--- length (03). The list stands five characters behind the beginning of the field
+-- length (03). What it takes is counted from the beginning of the field, with the three characters of mark and count; the list stands
+-- five characters behind that beginning
 unfoldable pub listed : ℕ → ℕ → List ℕ → Found Weak
 listed at count cs =
     cond (eqb count 0) (done (noneAt at, 3))

@@ -27,7 +27,7 @@ returns : tie.Need-returns
 returns c =
     let a = c .before .before .before .before .before .before .before .args in
     ap Bad (c .refusal .ensures ∙ ap fieldsRefusal (c .before .enum-told .given .1))
-    ∙ ap finishedOf (sym (answer-faulty (a .settings) (a .pinkey) (a .pvk) (a .command .now) (a .start .at) (a .block .now) (a .enciphered .now)
+    ∙ ap finishedOf (sym (answer-faulty (a .settings) (a .pinparity) (a .pvkparity) (a .command .now) (a .start .at) (a .block .now) (a .enciphered .now)
     _ (sym (c .before .enum-told .given .1) ∙ c .before .before .before .read .ensures)))
 
 key-box-requires : tie.Need-key-box-requires
@@ -47,7 +47,7 @@ returns-2 c =
     let got = c .before .before .before .before .before in
     let a = got .before .before .before .before .before .before .args in
     ap Bad (c .refusal2 .ensures ∙ ap boxRefusal (c .before .enum-told2 .given .1))
-    ∙ ap finishedOf (sym (answer-unboxed (a .settings) (a .pinkey) (a .pvk) (a .command .now) (a .start .at) (a .block .now) (a .enciphered .now)
+    ∙ ap finishedOf (sym (answer-unboxed (a .settings) (a .pinparity) (a .pvkparity) (a .command .now) (a .start .at) (a .block .now) (a .enciphered .now)
     _ (sym (got .reread .given .1) ∙ got .before .before .read .ensures)
     _ (sym (c .before .enum-told2 .given .1) ∙ c .before .before .before .key-box .ensures)))
 
@@ -72,7 +72,7 @@ returns-3 c =
     let got = box .before .before .before .before in
     let a = got .before .before .before .before .before .before .args in
     ap Bad (c .refusal3 .ensures ∙ ap refusalIn (c .before .enum-told3 .given .1))
-    ∙ ap finishedOf (sym (answer-unfinished (a .settings) (a .pinkey) (a .pvk) (a .command .now) (a .start .at) (a .block .now) (a .enciphered .now)
+    ∙ ap finishedOf (sym (answer-unfinished (a .settings) (a .pinparity) (a .pvkparity) (a .command .now) (a .start .at) (a .block .now) (a .enciphered .now)
     _ (sym (got .reread .given .1) ∙ got .before .before .read .ensures)
     _ (bytes-below (a .block .now) (got .before .before .before .before .shared-slice-known2 .given)) (bytes-below (a .enciphered .now) (got .before .before .before .shared-slice-known3 .given))
     (sym (box .answered .given .1) ∙ box .before .before .key-box .ensures)
@@ -83,7 +83,7 @@ returns-4 c =
     let box = c .before .before .before .before .before in
     let got = box .before .before .before .before in
     let a = got .before .before .before .before .before .before .args in
-    answer-made (a .settings) (a .pinkey) (a .pvk) (a .command .now) (a .start .at) (a .block .now) (a .enciphered .now)
+    answer-made (a .settings) (a .pinparity) (a .pvkparity) (a .command .now) (a .start .at) (a .block .now) (a .enciphered .now)
     _ (sym (got .reread .given .1) ∙ got .before .before .read .ensures)
     _ (bytes-below (a .block .now) (got .before .before .before .before .shared-slice-known2 .given)) (bytes-below (a .enciphered .now) (got .before .before .before .shared-slice-known3 .given))
     (sym (box .answered .given .1) ∙ box .before .before .key-box .ensures)

@@ -22,8 +22,8 @@ returns : tie.Need-returns
 returns c =
     let a = c .before .before .before .before .before .before .args in
     let room = length (a .out .now) in
-    does-nothing (a .settings) (a .pinkey) (a .pvk) (a .command .now) (a .block .now) (a .enciphered .now) room Room901 (a .out .now) (c .refused .result)
-    (answered-901 (a .settings) (a .pinkey) (a .pvk) (a .command .now) (a .block .now) (a .enciphered .now) room (c .before .if1 .taken)) (c .refused .ensures .0) (c .refused .ensures .1)
+    does-nothing (a .settings) (a .pinparity) (a .pvkparity) (a .command .now) (a .block .now) (a .enciphered .now) room Room901 (a .out .now) (c .refused .result)
+    (answered-901 (a .settings) (a .pinparity) (a .pvkparity) (a .command .now) (a .block .now) (a .enciphered .now) room (c .before .if1 .taken)) (c .refused .ensures .0) (c .refused .ensures .1)
 
 is-framed-requires : tie.Need-is-framed-requires
 is-framed-requires c κs = search needs
@@ -35,8 +35,8 @@ returns-2 : tie.Need-returns-2
 returns-2 c =
     let a = c .before .before .before .before .before .before .before .before .args in
     let room = length (a .out .now) in
-    does-nothing (a .settings) (a .pinkey) (a .pvk) (a .command .now) (a .block .now) (a .enciphered .now) room Frame902 (a .out .now) (c .refused2 .result)
-    (answered-902 (a .settings) (a .pinkey) (a .pvk) (a .command .now) (a .block .now) (a .enciphered .now) room (c .before .before .before .if1 .left) (sym (c .before .before .is-framed .ensures) ∙ not-true (c .before .before .is-framed .result) (c .before .if2 .taken)))
+    does-nothing (a .settings) (a .pinparity) (a .pvkparity) (a .command .now) (a .block .now) (a .enciphered .now) room Frame902 (a .out .now) (c .refused2 .result)
+    (answered-902 (a .settings) (a .pinparity) (a .pvkparity) (a .command .now) (a .block .now) (a .enciphered .now) room (c .before .before .before .if1 .left) (sym (c .before .before .is-framed .ensures) ∙ not-true (c .before .before .is-framed .result) (c .before .if2 .taken)))
     (c .refused2 .ensures .0) (c .refused2 .ensures .1)
 
 answer-by-requires : tie.Need-answer-by-requires
@@ -51,7 +51,7 @@ respond-requires c κs =
     let at = a .settings .header in
     let bounds = framed-bounds at s (sym (c .before .before .before .is-framed .ensures) ∙ not-false (c .before .before .before .is-framed .result) (c .before .before .if2 .left)) in (
       record { framed = bounds .0; coded = bounds .2; roomy = omega arith },
-      subst (Short s) (sym (c .before .answer-by .ensures)) (short-answer (codeOf (drop at s)) (a .settings) (a .pinkey) (a .pvk) s (at + 2) (a .block .now) (a .enciphered .now)),
+      subst (Short s) (sym (c .before .answer-by .ensures)) (short-answer (codeOf (drop at s)) (a .settings) (a .pinparity) (a .pvkparity) s (at + 2) (a .block .now) (a .enciphered .now)),
     )
 
 same-length : tie.Need-same-length
@@ -64,9 +64,9 @@ returns-3 c =
     let at = a .settings .header in
     let room = length (a .out .now) in
     let framed = sym (c .before .before .before .before .before .before .is-framed .ensures) ∙ not-false (c .before .before .before .before .before .before .is-framed .result) (c .before .before .before .before .before .if2 .left) in
-    let payload = ap (payloadOf s) (c .before .before .before .before .answer-by .ensures) ∙ payload-answer (codeOf (drop at s)) (a .settings) (a .pinkey) (a .pvk) s (at + 2) (a .block .now) (a .enciphered .now) in
-    does-answered (a .settings) (a .pinkey) (a .pvk) s (a .block .now) (a .enciphered .now) room (commanded (a .settings) (a .pinkey) (a .pvk) s (a .block .now) (a .enciphered .now) at) (a .out .now) _ _
-    (answered-framed (a .settings) (a .pinkey) (a .pvk) s (a .block .now) (a .enciphered .now) room (c .before .before .before .before .before .before .before .if1 .left) framed)
+    let payload = ap (payloadOf s) (c .before .before .before .before .answer-by .ensures) ∙ payload-answer (codeOf (drop at s)) (a .settings) (a .pinparity) (a .pvkparity) s (at + 2) (a .block .now) (a .enciphered .now) in
+    does-answered (a .settings) (a .pinparity) (a .pvkparity) s (a .block .now) (a .enciphered .now) room (commanded (a .settings) (a .pinparity) (a .pvkparity) s (a .block .now) (a .enciphered .now) at) (a .out .now) _ _
+    (answered-framed (a .settings) (a .pinparity) (a .pvkparity) s (a .block .now) (a .enciphered .now) room (c .before .before .before .before .before .before .before .if1 .left) framed)
     (responds-as at s (a .out .now) _ _ _ _ payload (c .before .before .respond .ensures))
 
 pub answer-spec : {M : Type 1} → statement M

@@ -8,7 +8,7 @@ use lib.ListN.{getD, take, drop}
 use lib.Seq.{length-take-le}
 use borrow.Author.Needs.{needs}
 use Rattle.frame.proofs.Laws.{over-lent}
-use Rattle.frame.specs.Frame.{opening, raised, twoDigit}
+use Rattle.frame.specs.Frame.{opening, raised, inTwoDigits}
 use Rattle.frame.proofs.open.Statement.{statement}
 use Rattle.frame.proofs.open.Tie as tie
 
@@ -77,7 +77,7 @@ returns c =
     let header = take (a .header) (a .command .now) in
     let long = length-take-le (a .header) (a .command .now) (omega arith) in
     let headed = c .before .before .before .before .before .before .before .put-run .ensures ∙ ap (λ (k : ℕ). header ++ drop k (a .out .now)) long in
-    let answer = getD (a .command .now) (a .header) 0 ∷ raised (getD (a .command .now) (a .header + 1) 0) ∷ twoDigit (a .number) in
+    let answer = getD (a .command .now) (a .header) 0 ∷ raised (getD (a .command .now) (a .header + 1) 0) ∷ inTwoDigits (a .number) in
     over-lent header answer (a .out .now) _ (a .header) 4 long headed _ (c .before .before .put-run2 .ensures)
 
 pub open-spec : {M : Type 1} → statement M

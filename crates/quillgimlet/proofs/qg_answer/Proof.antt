@@ -29,7 +29,7 @@ says-as e d = rw (← e) d
 returns : tie.Need-returns
 returns c =
     let a = c .before .before .before .before .before .before .before .before .before .args in
-    says-as (ap (λ (s : Settings). answered s (yes? (a .pinkey)) (yes? (a .pvk)) (a .command .now) (a .block .now) (a .enciphered .now) (length (a .out .now))) (c .before .before .before .before .inner .ensures)) (c .before .before .answer .ensures)
+    says-as (ap (λ (s : Settings). answered s (yes? (a .pinparity)) (yes? (a .pvkparity)) (a .command .now) (a .block .now) (a .enciphered .now) (length (a .out .now))) (c .before .before .before .before .inner .ensures)) (c .before .before .answer .ensures)
 
 pub qg-answer-spec : {M : Type 1} → statement M
 qg-answer-spec = tie.close (tie.spec inner-requires answer-requires same-length returns)

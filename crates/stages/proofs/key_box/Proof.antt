@@ -35,8 +35,8 @@ returns c =
 sized-row-requires-2 : tie.Need-sized-row-requires-2
 sized-row-requires-2 c κs = search needs
 
-enum-known-sealed : tie.Need-enum-known-sealed
-enum-known-sealed c = search needs
+enum-known-validation : tie.Need-enum-known-validation
+enum-known-validation c = search needs
 
 enum-told-2 : tie.Need-enum-told-2
 enum-told-2 c = search needs
@@ -54,24 +54,24 @@ unfolding boxed
 returns-3 c =
     let a = c .before .before .before .before .before .before .before .before .before .before .before .args in
     let first = row-held (sized 8 (a .block .now)) _ (sym (c .before .before .before .before .before .before .sized .given .1) ∙ c .before .before .before .before .before .before .before .before .sized-row .ensures) in
-    let second = row-held (sized 8 (a .enciphered .now)) _ (sym (c .before .before .sealed .given .1) ∙ c .before .before .before .before .sized-row2 .ensures) in
-    rw (first .1, second .1, not-true (a .pinkey) (c .if1 .taken))
+    let second = row-held (sized 8 (a .enciphered .now)) _ (sym (c .before .before .validation .given .1) ∙ c .before .before .before .before .sized-row2 .ensures) in
+    rw (first .1, second .1, not-true (a .pinparity) (c .if1 .taken))
 
 returns-4 : tie.Need-returns-4
 unfolding boxed
 returns-4 c =
     let a = c .before .before .before .before .before .before .before .before .before .before .before .before .args in
     let first = row-held (sized 8 (a .block .now)) _ (sym (c .before .before .before .before .before .before .before .sized .given .1) ∙ c .before .before .before .before .before .before .before .before .before .sized-row .ensures) in
-    let second = row-held (sized 8 (a .enciphered .now)) _ (sym (c .before .before .before .sealed .given .1) ∙ c .before .before .before .before .before .sized-row2 .ensures) in
-    rw (first .1, second .1, not-false (a .pinkey) (c .before .if1 .left), not-true (a .pvk) (c .if2 .taken))
+    let second = row-held (sized 8 (a .enciphered .now)) _ (sym (c .before .before .before .validation .given .1) ∙ c .before .before .before .before .before .sized-row2 .ensures) in
+    rw (first .1, second .1, not-false (a .pinparity) (c .before .if1 .left), not-true (a .pvkparity) (c .if2 .taken))
 
 returns-5 : tie.Need-returns-5
 unfolding boxed
 returns-5 c =
     let a = c .before .before .before .before .before .before .before .before .before .before .before .before .args in
     let first = row-held (sized 8 (a .block .now)) _ (sym (c .before .before .before .before .before .before .before .sized .given .1) ∙ c .before .before .before .before .before .before .before .before .before .sized-row .ensures) in
-    let second = row-held (sized 8 (a .enciphered .now)) _ (sym (c .before .before .before .sealed .given .1) ∙ c .before .before .before .before .before .sized-row2 .ensures) in
-    rw (first .1, second .1, not-false (a .pinkey) (c .before .if1 .left), not-false (a .pvk) (c .if2 .left)) (ap₂ (λ (x y : ℕ). Got (record { block = x; enciphered = y })) (first .2) (second .2))
+    let second = row-held (sized 8 (a .enciphered .now)) _ (sym (c .before .before .before .validation .given .1) ∙ c .before .before .before .before .before .sized-row2 .ensures) in
+    rw (first .1, second .1, not-false (a .pinparity) (c .before .if1 .left), not-false (a .pvkparity) (c .if2 .left)) (ap₂ (λ (x y : ℕ). Got (record { block = x; enciphered = y })) (first .2) (second .2))
 
 pub key-box-spec : {M : Type 1} → statement M
 key-box-spec =
@@ -82,7 +82,7 @@ key-box-spec =
     enum-told
     returns
     sized-row-requires-2
-    enum-known-sealed
+    enum-known-validation
     enum-told-2
     returns-2
     returns-3
