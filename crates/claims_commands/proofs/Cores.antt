@@ -1,0 +1,104 @@
+-- The cores that the promises of the two calls reject: what the calls say there is computed.
+-- Assumes nothing.
+use Prim.Native.Nat.{ℕ, _≤_, _<_}
+use native.Mathlib.Omega.{arith}
+use mathlib.Core.Path.{_≡_, refl, sym, ap, _∙_}
+use mathlib.Core.List.{List, [], _∷_, _++_}
+use mathlib.Core.Bool.{Bool, true}
+use lib.ListN.{length, getD, drop, replicate, length-replicate, getD-replicate, List·getD-append}
+use lib.Dec.{lit<}
+use borrow.Author.Tests.{le-leb}
+use Rattle.nibbles.specs.Nibbles.{nibs, packs, xors, every, leading, same}
+use Rattle.alphabet.specs.Alphabet.{allOf, begins, valueOf}
+use Rattle.numbers.specs.Promise.{Said, Does, quietly}
+use Rattle.numbers.specs.declared.Reply.{Reply}
+use Rattle.settings.specs.Settings.{usually}
+use Rattle.settings.specs.declared.Settings.{Settings}
+use Rattle.formats.specs.Formats.{codeOf}
+use Rattle.blocks.specs.Blocks.{contents, readRow}
+use Rattle.validation.specs.Validation.{validationRow}
+use Rattle.ibm3624.specs.Ibm3624.{differences}
+use Rattle.offsets.specs.Offsets.{pinWithNatural}
+use Rattle.frame.specs.Frame.{isFramed, opening}
+use Rattle.fields.specs.Fields.{run, number, trailer}
+use Rattle.keys.specs.Keys.{keyType, hexKey, lettered, key, lmkField}
+use Rattle.weak.specs.Weak.{weakField, entries, isOn}
+use Rattle.stages.specs.Stages.{keys, formatField, sealed, validationField, offsetting, weak, end, boxed}
+use Rattle.bk.specs.Bk.{bkFields, bkAsk, bkFinish, bkAnswer}
+use Rattle.commands.specs.Commands.{askBy, answerBy, asked, answered}
+use Rattle.claims_blocks.specs.Figures.{usualAccount}
+use Rattle.claims_blocks.specs.Promises.{Only00, Apart}
+use Rattle.claims_offsets.specs.Figures.{blockP2, encipheredP9}
+use Rattle.claims_commands.specs.Cores.{commandOf, otherAccount, encipheredZeros, asks, answers, CommandsNotRefusing, CommandsNotFixed, CommandsNotSilent}
+
+-- ---- what an answer must be where a call says this
+
+module _ (said : Said ℕ) (x : Said ℕ) (e : said ≡ x) where
+  only-00 : (before : List ℕ) → x .number ≡ 0 → Only00 said before
+  only-00 before z r after d = d .number ∙ ap (λ (y : Said ℕ). y .number) e ∙ z
+
+  -- what is written stands in the buffer
+  stands : (i : ℕ) → i < length (x .written) → (before after : List ℕ) (r : Reply) → Does said before r after → getD after i 0 ≡ getD (x .written) i 0
+  stands i h before after r d = ap (λ (bs : List ℕ). getD bs i 0) (rw e at (d .buffer)) ∙ List·getD-append (x .written) (drop (length (x .written)) before) 0 i h
+
+  -- so a byte that is not zero does not leave zeros
+  not-zeros : (i : ℕ) → i < length (x .written) → (getD (x .written) i 0 ≡ 0 → ⊥) → (room : ℕ) (r : Reply) → i < room → Does said (replicate room 0) r (replicate room 0) → ⊥
+  not-zeros i h n room r k d = n (sym (stands i h (replicate room 0) (replicate room 0) r d) ∙ getD-replicate room i 0 0 k)
+
+-- where two calls say another byte at a place, no answer fits both
+apart : (said said′ x y : Said ℕ) → said ≡ x → said′ ≡ y → (i : ℕ) → i < length (x .written) → i < length (y .written)
+    → (getD (x .written) i 0 ≡ getD (y .written) i 0 → ⊥) → (before : List ℕ) → Apart said said′ before
+apart said said′ x y e e′ i h h′ n before r after d d′ = n (sym (stands said x e i h before after r d) ∙ stands said′ y e′ i h′ before after r d′)
+
+-- ---- what the two calls say
+
+-- the block of P12, but for its last byte, which has the account's last two digits
+abbrev blockWith : ℕ → Said ℕ
+blockWith last = record { number = 0; written = 0x01 ∷ 0x23 ∷ 0x45 ∷ 0x67 ∷ 0x89 ∷ 0xA2 ∷ 0x34 ∷ last ∷ [] }
+
+-- "`HDR1BL009247FFFFFFFF`: header, response code, 00, offset", with four digits of offset
+abbrev response : List ℕ → Said ℕ
+response offset = record { number = 0; written = (0x48 ∷ 0x44 ∷ 0x52 ∷ 0x31 ∷ 0x42 ∷ 0x4C ∷ 0x30 ∷ 0x30 ∷ offset) ++ replicate 8 0x46 }
+
+-- more room than enough changes nothing
+ask-room : (settings : Settings) (s : List ℕ) (room : ℕ) → 8 ≤ room → asked settings s room ≡ asked settings s 8
+unfolding asked
+ask-room settings s room h = rw (le-leb 8 room h)
+
+answer-room : (settings : Settings) (g h : Bool) (s block enciphered : List ℕ) (room : ℕ) → 65 ≤ room → answered settings g h s block enciphered room ≡ answered settings g h s block enciphered 65
+unfolding answered
+answer-room settings g h s block enciphered room k = rw (le-leb 65 room k)
+
+-- computed: the block of each account
+asks-said : (before : List ℕ) → 8 ≤ length before → (asks usualAccount before ≡ blockWith 0x56) × (asks otherAccount before ≡ blockWith 0x57)
+unfolding packs leading allOf begins valueOf codeOf isFramed run number trailer keyType hexKey lettered key lmkField weakField keys formatField sealed validationField offsetting weak end bkFields
+    validationRow bkAsk askBy asked
+asks-said before h =
+    (ap quietly (ask-room usually (commandOf usualAccount) (length before) h) ∙ refl, ap quietly (ask-room usually (commandOf otherAccount) (length before) h) ∙ refl)
+
+-- computed: the response for each enciphered block. Of zeros the natural PIN is zeros, so the offset is the PIN's last digits
+answers-said : (before : List ℕ) → 65 ≤ length before
+    → (answers encipheredP9 before ≡ response (0x39 ∷ 0x32 ∷ 0x34 ∷ 0x37 ∷ [])) × (answers encipheredZeros before ≡ response (0x34 ∷ 0x35 ∷ 0x36 ∷ 0x37 ∷ []))
+unfolding nibs xors every leading same allOf begins valueOf codeOf isFramed opening run number trailer keyType hexKey lettered key lmkField weakField entries isOn keys formatField sealed
+    validationField offsetting weak end boxed bkFields contents readRow pinWithNatural differences bkFinish bkAnswer answerBy answered
+answers-said before h = (
+  answer-room usually true true (commandOf usualAccount) blockP2 encipheredP9 (length before) h ∙ refl,
+  answer-room usually true true (commandOf usualAccount) blockP2 encipheredZeros (length before) h ∙ refl,
+)
+
+-- ---- the cores
+
+pub commands-not-refusing : CommandsNotRefusing
+commands-not-refusing = (λ before h. only-00 _ _ (asks-said before h .0) before refl, λ before h. only-00 _ _ (answers-said before h .0) before refl)
+
+pub commands-not-fixed : CommandsNotFixed
+commands-not-fixed = (
+  λ before h. apart _ _ _ _ (asks-said before h .0) (asks-said before h .1) 7 (lit< tt) (lit< tt) (omega arith) before,
+  λ before h. apart _ _ _ _ (answers-said before h .0) (answers-said before h .1) 8 (lit< tt) (lit< tt) (omega arith) before,
+)
+
+pub commands-not-silent : CommandsNotSilent
+commands-not-silent = (
+  λ room r h. let l = length-replicate {A = ℕ} room 0 in not-zeros _ _ (asks-said (replicate room 0) (omega arith) .0) 0 (lit< tt) (omega arith) room r (omega arith),
+  λ room r h. let l = length-replicate {A = ℕ} room 0 in not-zeros _ _ (answers-said (replicate room 0) (omega arith) .0) 0 (lit< tt) (omega arith) room r (omega arith),
+)

@@ -1,0 +1,67 @@
+-- Offsets tell the digit differences and a PIN's place on the weak list, and nothing else.
+-- Assumes nothing.
+use Prim.Native.Nat.{ℕ, _+_}
+use native.Mathlib.Omega.{arith}
+use mathlib.Core.Path.{_≡_, refl, sym, ap, _∙_}
+use mathlib.Core.Logic.{_⊎_, inl, inr}
+use mathlib.Core.List.{List}
+use mathlib.Core.Bool.{Bool, true, false, not}
+use lib.ListN.{length}
+use Rattle.numbers.specs.Numbers.{done, unless}
+use Rattle.numbers.specs.declared.Refusal.{Refusal}
+use Rattle.numbers.specs.declared.Refusal.the-variants.{Weak86}
+use Rattle.numbers.proofs.Laws.{value-of}
+use Rattle.settings.specs.declared.Settings.{Settings}
+use Rattle.ibm3624.specs.Ibm3624.{covers, offsetOf}
+use Rattle.offsets.specs.Offsets.{pinWithNatural}
+use Rattle.weak.specs.Weak.{isOn, weakPins}
+use Rattle.bk.specs.Bk.{bkFinish, accountIn, tableIn}
+use Rattle.bk.specs.declared.Bk.{Bk}
+use Rattle.claims_commands.specs.Runs.{Reads}
+use Rattle.claims_commands.specs.Claims.{OffsetsTellDifferences}
+use Rattle.claims_commands.proofs.Alike.{read-alike, weak-alike}
+use Rattle.claims_commands.proofs.Told.{answer-alike}
+
+-- two judgements by a test are alike exactly where both refuse, or neither does and the values are the same: to and fro
+module _ {A : Type 0} (q : Refusal) (x y : A) where
+  abbrev Same : Bool → Bool → Type 0
+  Same a b = ((a ≡ true) × (b ≡ true)) ⊎ ((a ≡ false) × (b ≡ false) × (x ≡ y))
+
+  unless-told : (a b : Bool) → unless q (not a) x ≡ unless q (not b) y → Same a b
+  unless-told true true e = inl (refl, refl)
+  unless-told true false e = absurd (let z : _≡_ {A = ℕ} 0 1 = cc in omega arith)
+  unless-told false true e = absurd (let z : _≡_ {A = ℕ} 0 1 = cc in omega arith)
+  unless-told false false e = inr (refl, refl, value-of e)
+
+  unless-same : (a b : Bool) → Same a b → unless q (not a) x ≡ unless q (not b) y
+  unless-same a b (inl e) = rw (e .0, e .1)
+  unless-same a b (inr e) = rw (e .0, e .1) (ap done (e .2))
+
+-- the finish of a run whose PIN is read and whose check length fits, by another name of its fields and of its weak list
+finish-read :
+    {settings : Settings} {g h : Bool} {room : ℕ} {s block enciphered : List ℕ} (r : Reads settings g h room s block enciphered) (p : Bk) (weak : List (List ℕ)) (m : ℕ)
+    → p ≡ r .reaches .fields → weakPins (p .weak) s ≡ weak → covers (settings .variable) (p .offsetting .check) (length (r .pin)) ≡ done m
+    → bkFinish (settings .variable) s p (r .reaches .rows) ≡ unless Weak86 (not (isOn (r .pin) weak)) (offsetOf m (r .pin) (r .natural))
+unfolding bkFinish
+finish-read {s = s} r p weak m e w c =
+    let rows = r .reaches .rows in
+    let paired : pinWithNatural (p .sealed .format) (tableIn s p) (rows .0, accountIn s p, rows .1) ≡ done (r .pin, r .natural) = rw e (r .paired) in
+    rw (paired, c, w)
+
+pub offsets-tell-differences : OffsetsTellDifferences
+offsets-tell-differences settings g h room m s t block block′ enciphered enciphered′ r r′ alike long c =
+    let at = settings .header + 2 in
+    let a = r .reaches in
+    let b = r′ .reaches in
+    let p = a .fields in
+    let weak = weakPins (p .weak) s in
+    let same = read-alike (settings .restricted) s t at p (b .fields) (a .past) (b .past) (a .read) (b .read) alike in
+    let listed = weak-alike (settings .restricted) s t at p (a .past) (a .read) alike in
+    let here = finish-read r p weak m refl refl c in
+    let there = finish-read r′ p weak m same (sym listed) (rw (← long) c) in
+    let answers = answer-alike settings g h room s t block block′ enciphered enciphered′ a b alike in
+    let offset = offsetOf m (r .pin) (r .natural) in
+    let offset′ = offsetOf m (r′ .pin) (r′ .natural) in (
+      λ e. unless-told Weak86 offset offset′ (isOn (r .pin) weak) (isOn (r′ .pin) weak) (sym here ∙ answers .0 e ∙ there),
+      λ e. answers .1 (here ∙ unless-same Weak86 offset offset′ (isOn (r .pin) weak) (isOn (r′ .pin) weak) e ∙ sym there),
+    )

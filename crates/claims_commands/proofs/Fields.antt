@@ -1,0 +1,245 @@
+-- For what the fields of a command are refused: reader by reader, then stage by stage.
+-- Assumes nothing.
+use Prim.Native.Nat.{ℕ, _+_, _-_, _*_}
+use mathlib.Core.Path.{_≡_, refl}
+use mathlib.Core.List.{List, [], _∷_}
+use mathlib.Core.Bool.{Bool, true, false, _&&_, cond}
+use lib.ListN.{length, getD, take, drop}
+use lib.Dec.{leb, eqb}
+use Rattle.nibbles.specs.Nibbles.{within}
+use Rattle.alphabet.specs.Alphabet.{allOf, begins, valueOf}
+use Rattle.alphabet.specs.declared.Class.{Class}
+use Rattle.alphabet.specs.declared.Class.the-variants.{Digit, CapitalHex, Printable}
+use Rattle.numbers.specs.Numbers.{Outcome, done, refused, unless, numberOf}
+use Rattle.numbers.specs.declared.Refusal.{Refusal}
+use Rattle.numbers.specs.declared.Refusal.the-variants.{WeakList03, Field15, Format23, Table25, Key26, Use29, NotHere69}
+use Rattle.formats.specs.Formats.{codeOf, formatOf}
+use Rattle.formats.specs.declared.Code.{Code}
+use Rattle.formats.specs.declared.Code.the-variants.{Built, Known, Unknown}
+use Rattle.validation.specs.Validation.{isValidation}
+use Rattle.fields.specs.Fields.{Found, Stage, read, faulty, run, number, twoDigits, marked, behind, trailerMark, longestTrailer, atMost, trailer, fielded, onward, outcome}
+use Rattle.fields.specs.declared.Fault.{Fault}
+use Rattle.keys.specs.Keys.{type001, type002, typeFFF, keyType, hexKey, saidLength, blockLength, permits, keyBlock, lettered, key, lmkField, present}
+use Rattle.keys.specs.declared.Letters.{Letters}
+use Rattle.keys.specs.declared.Letters.the-variants.{UOrT, S}
+use Rattle.keys.specs.declared.Use.{Use}
+use Rattle.keys.specs.declared.Use.the-variants.{PinKey, Pvk}
+use Rattle.keys.specs.declared.Lmk.{Lmk}
+use Rattle.weak.specs.Weak.{noneAt, weakField}
+use Rattle.weak.specs.Weak as list
+use Rattle.stages.specs.Stages.{allows, formatField, validationWidth, validationField, keys, sealed, offsetting, weak, allAgree, lastId, closed, end}
+use Rattle.stages.specs.declared.Keys.{Keys}
+use Rattle.bk.specs.Bk.{weakMark, bkFields}
+use Rattle.claims_blocks.specs.Promises.{listed}
+use Rattle.claims_blocks.proofs.Judged.{Only, done-only, refused-only, test-only, then-only}
+
+-- ---- over any refusals
+
+module _ (these : Refusal → Type 0) where
+  -- one judgement or another
+  pub either-only : {A : Type 0} (t : Bool) (o o′ : Outcome A) → Only these o → Only these o′ → Only these (cond t o o′)
+  either-only true o o′ c d = c
+  either-only false o o′ c d = d
+
+  -- a reader behind some characters
+  behind-only : {A : Type 0} (n : ℕ) (o : Found A) → Only these o → Only these (behind n o)
+  behind-only n (done r) c = done-only these (r .0, n + r .1)
+  behind-only n (refused q) c = refused-only these q (c q refl)
+
+  -- a field, and what comes next
+  fielded-only : {A B : Type 0} (k at : ℕ) (o : Found A) (next : A → ℕ → Stage B) → Only these o → ((a : A) (past : ℕ) → Only these (outcome (next a past)))
+      → Only these (outcome (fielded k at o next))
+  fielded-only k at (done r) next c n = n (r .0) (at + r .1)
+  fielded-only k at (refused q) next c n = refused-only these q (c q refl)
+
+  -- a stage, and what comes next
+  onward-only : {A B : Type 0} (stage : Stage A) (next : A → ℕ → Stage B) → Only these (outcome stage) → ((a : A) (past : ℕ) → Only these (outcome (next a past)))
+      → Only these (outcome (onward stage next))
+  onward-only (read a past) next c n = n a past
+  onward-only (faulty f) next c n = refused-only these (f .refusal) (c (f .refusal) refl)
+
+  -- so many characters of a class: for a missing one and for a wrong one
+  run-only : (k : Class) (missing wrong : Refusal) → these missing → these wrong → (n : ℕ) (cs : List ℕ) → Only these (run k missing wrong n cs)
+  unfolding run
+  run-only k missing wrong m w n cs =
+      then-only these (unless missing (leb n (length cs)) n) _ (test-only these missing m (leb n (length cs)) n)
+      (λ _. test-only these wrong w (allOf k (take n cs)) (n, n))
+
+  -- a number of two digits
+  number-only : (low high : ℕ) (wrong : Refusal) → these wrong → (cs : List ℕ) → Only these (number low high wrong cs)
+  unfolding number
+  number-only low high wrong w cs =
+      then-only these (run Digit wrong wrong 2 cs) _ (run-only Digit wrong wrong w w 2 cs)
+      (λ _. test-only these wrong w (within low high (twoDigits 0 cs)) (twoDigits 0 cs, 2))
+
+-- ---- the readers
+
+-- a refusal whose number stands in a list
+abbrev pub In : List ℕ → Refusal → Type 0
+In numbers q = listed (numberOf q) numbers ≡ true
+
+-- the numbers of the fields
+abbrev pub fieldNumbers : List ℕ
+fieldNumbers = 3 ∷ 15 ∷ 23 ∷ 25 ∷ 26 ∷ 29 ∷ 69 ∷ []
+
+abbrev OfFields : Refusal → Type 0
+OfFields = In fieldNumbers
+
+-- 15
+type-gives : (cs : List ℕ) → Only OfFields (keyType cs)
+unfolding keyType
+type-gives cs =
+    either-only OfFields (begins type001 cs) _ _ (done-only OfFields (UOrT, 3))
+    (either-only OfFields (begins type002 cs) _ _ (done-only OfFields (UOrT, 3))
+    (either-only OfFields (begins typeFFF cs) _ _ (done-only OfFields (S, 3)) (refused-only OfFields Field15 refl)))
+
+-- 15
+hex-gives : (n : ℕ) (cs : List ℕ) → Only OfFields (hexKey n cs)
+unfolding hexKey
+hex-gives n cs = then-only OfFields (run CapitalHex Field15 Field15 n cs) _ (run-only OfFields CapitalHex Field15 Field15 refl refl n cs) (λ r. done-only OfFields _)
+
+-- 15, 26
+length-gives : (cs : List ℕ) → Only OfFields (blockLength cs)
+unfolding blockLength
+length-gives cs =
+    then-only OfFields (run Digit Field15 Key26 5 cs) _ (run-only OfFields Digit Field15 Key26 refl refl 5 cs)
+    (λ _. test-only OfFields Key26 refl (leb (valueOf (getD cs 0 0)) 1 && within 16 512 (saidLength cs)) (saidLength cs, 5))
+
+-- 15, 26, 29
+block-gives : (for : Use) (cs : List ℕ) → Only OfFields (keyBlock for cs)
+unfolding keyBlock
+block-gives for cs =
+    then-only OfFields (blockLength cs) _ (length-gives cs)
+    (λ said. then-only OfFields (run Printable Field15 Field15 (said .0 - 5) (drop 5 cs)) _ (run-only OfFields Printable Field15 Field15 refl refl (said .0 - 5) (drop 5 cs))
+    (λ rest. then-only OfFields (unless Use29 (permits for cs) cs) _ (test-only OfFields Use29 refl (permits for cs) cs)
+    (λ _. then-only OfFields (number 0 9 Field15 (drop 14 cs)) _ (number-only OfFields 0 9 Field15 refl (drop 14 cs))
+    (λ id. done-only OfFields _))))
+
+-- the same, and 26 for another letter
+lettered-gives : (letters : Letters) (for : Use) (cs : List ℕ) → Only OfFields (lettered letters for cs)
+unfolding lettered
+lettered-gives UOrT for cs =
+    either-only OfFields (marked 0x55 cs) _ _ (behind-only OfFields 1 (hexKey 32 (drop 1 cs)) (hex-gives 32 (drop 1 cs)))
+    (either-only OfFields (marked 0x54 cs) _ _ (behind-only OfFields 1 (hexKey 48 (drop 1 cs)) (hex-gives 48 (drop 1 cs))) (refused-only OfFields Key26 refl))
+lettered-gives S for cs = either-only OfFields (marked 0x53 cs) _ _ (behind-only OfFields 1 (keyBlock for (drop 1 cs)) (block-gives for (drop 1 cs))) (refused-only OfFields Key26 refl)
+
+key-gives : (letters : Letters) (for : Use) (cs : List ℕ) → Only OfFields (key letters for cs)
+unfolding key
+key-gives letters for cs = either-only OfFields (leb 1 (length cs)) _ _ (lettered-gives letters for cs) (refused-only OfFields Field15 refl)
+
+-- 23, 69
+code-gives : (c : Code) → Only OfFields (formatOf c)
+code-gives (Built f) = done-only OfFields f
+code-gives Known = refused-only OfFields NotHere69 refl
+code-gives Unknown = refused-only OfFields Format23 refl
+
+-- 15, 23, 69
+format-gives : (restricted : Bool) (cs : List ℕ) → Only OfFields (formatField restricted cs)
+unfolding formatField
+format-gives restricted cs =
+    then-only OfFields (number 0 99 Field15 cs) _ (number-only OfFields 0 99 Field15 refl cs)
+    (λ code. then-only OfFields (formatOf (codeOf (code .0))) _ (code-gives (codeOf (code .0)))
+    (λ f. test-only OfFields NotHere69 refl (allows restricted f) (f, code .1)))
+
+-- 15
+validation-gives : (cs : List ℕ) → Only OfFields (validationField cs)
+unfolding validationField
+validation-gives cs =
+    then-only OfFields (unless Field15 (leb (validationWidth cs) (length cs)) (validationWidth cs)) _ (test-only OfFields Field15 refl (leb (validationWidth cs) (length cs)) (validationWidth cs))
+    (λ n. test-only OfFields Field15 refl (isValidation (take n cs)) (n, n))
+
+-- 15 for the length of the weak PINs, 03 for their list
+list-gives : (at count : ℕ) (cs : List ℕ) → Only OfFields (list.listed at count cs)
+unfolding list.listed
+list-gives at count cs =
+    either-only OfFields (eqb count 0) _ _ (done-only OfFields (noneAt at, 3))
+    (then-only OfFields (number 4 12 Field15 cs) _ (number-only OfFields 4 12 Field15 refl cs)
+    (λ each. then-only OfFields (run Digit WeakList03 WeakList03 (count * each .0) (drop 2 cs)) _ (run-only OfFields Digit WeakList03 WeakList03 refl refl (count * each .0) (drop 2 cs))
+    (λ digits. done-only OfFields _)))
+
+-- 03 for their count
+weak-gives : (mark at : ℕ) (cs : List ℕ) → Only OfFields (weakField mark at cs)
+unfolding weakField
+weak-gives mark at cs =
+    either-only OfFields (marked mark cs) _ _
+    (then-only OfFields (number 0 99 WeakList03 (drop 1 cs)) _ (number-only OfFields 0 99 WeakList03 refl (drop 1 cs)) (λ count. list-gives at (count .0) (drop 3 cs)))
+    (done-only OfFields (noneAt at, 0))
+
+-- 15
+lmk-gives : (cs : List ℕ) → Only OfFields (lmkField cs)
+unfolding lmkField
+lmk-gives cs =
+    either-only OfFields (marked 0x25 cs) _ _
+    (behind-only OfFields 1 _ (then-only OfFields (number 0 9 Field15 (drop 1 cs)) _ (number-only OfFields 0 9 Field15 refl (drop 1 cs)) (λ id. done-only OfFields _)))
+    (done-only OfFields _)
+
+-- 15
+trailer-gives : (cs : List ℕ) → Only OfFields (trailer cs)
+unfolding trailer
+trailer-gives cs =
+    let n = atMost longestTrailer (length (drop 1 cs)) in
+    either-only OfFields (marked trailerMark cs) _ _
+    (behind-only OfFields 1 (run Printable Field15 Field15 n (drop 1 cs)) (run-only OfFields Printable Field15 Field15 refl refl n (drop 1 cs)))
+    (done-only OfFields (0, 0))
+
+-- ---- the stages
+
+keys-give : (first : ℕ) (use₁ use₂ : Use) (s : List ℕ) (at : ℕ) → Only OfFields (outcome (keys first use₁ use₂ s at))
+unfolding keys
+keys-give first use₁ use₂ s at =
+    fielded-only OfFields first at (keyType (drop at s)) _ (type-gives (drop at s))
+    (λ letters at₂. fielded-only OfFields (first + 1) at₂ (key letters use₁ (drop at₂ s)) _ (key-gives letters use₁ (drop at₂ s))
+    (λ lmk₁ at₃. fielded-only OfFields (first + 2) at₃ (key letters use₂ (drop at₃ s)) _ (key-gives letters use₂ (drop at₃ s))
+    (λ lmk₂ next. done-only OfFields _)))
+
+sealed-gives : (first : ℕ) (restricted : Bool) (s : List ℕ) (at : ℕ) → Only OfFields (outcome (sealed first restricted s at))
+unfolding sealed
+sealed-gives first restricted s at =
+    fielded-only OfFields first at (run CapitalHex Field15 Field15 16 (drop at s)) _ (run-only OfFields CapitalHex Field15 Field15 refl refl 16 (drop at s))
+    (λ _ format. fielded-only OfFields (first + 1) format (formatField restricted (drop format s)) _ (format-gives restricted (drop format s))
+    (λ f next. done-only OfFields _))
+
+offsetting-gives : (first : ℕ) (s : List ℕ) (at : ℕ) → Only OfFields (outcome (offsetting first s at))
+unfolding offsetting
+offsetting-gives first s at =
+    fielded-only OfFields first at (number 4 12 Field15 (drop at s)) _ (number-only OfFields 4 12 Field15 refl (drop at s))
+    (λ check account. fielded-only OfFields (first + 1) account (run Digit Field15 Field15 12 (drop account s)) _ (run-only OfFields Digit Field15 Field15 refl refl 12 (drop account s))
+    (λ _ table. fielded-only OfFields (first + 2) table (run Digit Field15 Table25 16 (drop table s)) _ (run-only OfFields Digit Field15 Table25 refl refl 16 (drop table s))
+    (λ _ validation. fielded-only OfFields (first + 3) validation (validationField (drop validation s)) _ (validation-gives (drop validation s))
+    (λ width next. done-only OfFields _))))
+
+listing-gives : (first mark : ℕ) (s : List ℕ) (at : ℕ) → Only OfFields (outcome (weak first mark s at))
+unfolding weak
+listing-gives first mark s at = fielded-only OfFields first at (weakField mark at (drop at s)) _ (weak-gives mark at (drop at s)) (λ w next. done-only OfFields w)
+
+-- what is left over and ids that do not agree are 15
+closed-gives : (ks : Keys) (own : Lmk) (first at : ℕ) (s : List ℕ) (mark past : ℕ) → Only OfFields (outcome (closed ks own first at s mark past))
+closed-gives ks own first at s mark past = by-test (leb (length s) past) (allAgree ks own)
+  where
+    last : (there : Bool) (f g : Fault) → OfFields (f .refusal) → OfFields (g .refusal) → OfFields (cond there f g .refusal)
+    last true f g c d = c
+    last false f g c d = d
+
+    by-test : (whole alike : Bool)
+        → Only OfFields (outcome (cond whole (cond alike (read mark past) (faulty (lastId ks own first at))) (faulty (record { refusal = Field15; field = 0; place = past }))))
+    by-test true true = done-only OfFields mark
+    by-test true false = refused-only OfFields (lastId ks own first at .refusal) (last (present own) _ _ refl refl)
+    by-test false alike = refused-only OfFields Field15 refl
+
+end-gives : (first : ℕ) (ks : Keys) (s : List ℕ) (at : ℕ) → Only OfFields (outcome (end first ks s at))
+unfolding end
+end-gives first ks s at =
+    fielded-only OfFields first at (lmkField (drop at s)) _ (lmk-gives (drop at s))
+    (λ own mark. fielded-only OfFields (first + 1) mark (trailer (drop mark s)) _ (trailer-gives (drop mark s))
+    (λ _ past. closed-gives ks own first at s mark past))
+
+-- the fields of BK are refused for nothing else
+pub fields-give : (restricted : Bool) (s : List ℕ) (at : ℕ) → Only OfFields (outcome (bkFields restricted s at))
+unfolding bkFields
+fields-give restricted s at =
+    onward-only OfFields (keys 1 PinKey Pvk s at) _ (keys-give 1 PinKey Pvk s at)
+    (λ ks at₄. onward-only OfFields (sealed 4 restricted s at₄) _ (sealed-gives 4 restricted s at₄)
+    (λ block at₆. onward-only OfFields (offsetting 6 s at₆) _ (offsetting-gives 6 s at₆)
+    (λ inputs at₁₀. onward-only OfFields (weak 10 weakMark s at₁₀) _ (listing-gives 10 weakMark s at₁₀)
+    (λ pins at₁₁. onward-only OfFields (end 11 ks s at₁₁) _ (end-gives 11 ks s at₁₁)
+    (λ mark past. done-only OfFields _)))))

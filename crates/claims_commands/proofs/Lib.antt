@@ -1,0 +1,11 @@
+pub mod Promises
+pub mod Ahead
+pub mod Before
+pub mod Places
+pub mod Alike
+pub mod Told
+pub mod Differences
+pub mod Witnesses
+pub mod Fields
+pub mod Numbers
+pub mod Cores

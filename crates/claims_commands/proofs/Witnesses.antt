@@ -1,0 +1,130 @@
+-- The assumptions of demand 3 are met, on each side: computed.
+-- Assumes nothing.
+use Prim.Native.Nat.{ℕ, _+_}
+use native.Mathlib.Nat.{le-refl}
+use native.Mathlib.Omega.{arith}
+use mathlib.Core.Path.{_≡_, refl, ap}
+use mathlib.Core.List.{List, [], _∷_}
+use mathlib.Core.Bool.{true, false}
+use lib.ListN.{length, getD, take, drop}
+use Rattle.nibbles.specs.Nibbles.{nibs, xors, every, leading, same}
+use Rattle.alphabet.specs.Alphabet.{allOf, begins, valueOf}
+use Rattle.numbers.specs.Numbers.{done}
+use Rattle.numbers.specs.Promise.{Said}
+use Rattle.settings.specs.Settings.{usually}
+use Rattle.formats.specs.Formats as formats
+use Rattle.formats.specs.declared.Format.the-variants.{F01}
+use Rattle.blocks.specs.Blocks.{contents, readRow}
+use Rattle.ibm3624.specs.Ibm3624.{covers, differences}
+use Rattle.offsets.specs.Offsets.{pinWithNatural}
+use Rattle.frame.specs.Frame.{isFramed, codeOf, opening}
+use Rattle.frame.specs.declared.Code.the-variants as code
+use Rattle.fields.specs.Fields.{read, run, number, trailer}
+use Rattle.keys.specs.Keys.{keyType, hexKey, lettered, key, lmkField}
+use Rattle.weak.specs.Weak.{noneAt, listed, weakField, entries, isOn}
+use Rattle.weak.specs.declared.Weak.{Weak}
+use Rattle.stages.specs.Stages.{keys, formatField, sealed, validationField, offsetting, weak, end, boxed}
+use Rattle.bk.specs.Bk.{bkFields, accountIn, tableIn, bkFinish, bkAnswer}
+use Rattle.bk.specs.declared.Bk.{Bk}
+use Rattle.commands.specs.Commands.{roomToAnswer, answerBy, answered}
+use Rattle.claims_commands.specs.Runs.{Reads}
+use Rattle.claims_commands.specs.Witnesses.{command, Run, runP9, runP10, runOther, bothListed, oneListed, Meets, AssumptionsMet}
+
+-- the fields of the command, by the place of its trailer's mark and its weak list
+abbrev fields : ℕ → Weak → Bk
+fields mark listed = record {
+  sealed = record { block = 75; format = F01 };
+  offsetting = record { check = 4; account = 95; table = 107; validation = 123; width = 12 };
+  weak = listed;
+  trailer = mark;
+}
+
+-- without a weak list, with one of two PINs, with one of one
+abbrev none : Bk
+none = fields 135 (noneAt 135)
+
+abbrev both : Bk
+both = fields 150 (record { count = 2; length = 5; list = 140 })
+
+abbrev one : Bk
+one = fields 145 (record { count = 1; length = 5; list = 140 })
+
+-- the PINs with their natural PINs
+abbrev pinP9 : List ℕ × List ℕ
+pinP9 = (3 ∷ 4 ∷ 5 ∷ 6 ∷ 7 ∷ [], 9 ∷ 5 ∷ 3 ∷ 2 ∷ 0 ∷ [])
+
+abbrev pinP10 : List ℕ × List ℕ
+pinP10 = (4 ∷ 5 ∷ 6 ∷ 7 ∷ 8 ∷ [], 0 ∷ 6 ∷ 4 ∷ 3 ∷ 1 ∷ [])
+
+abbrev pinOther : List ℕ × List ℕ
+pinOther = (3 ∷ 4 ∷ 5 ∷ 6 ∷ 8 ∷ [], 9 ∷ 5 ∷ 3 ∷ 2 ∷ 0 ∷ [])
+
+module _ (weak : List ℕ) (p : Bk) where
+  -- the command, and the rows of the blocks
+  abbrev sent : Run → List ℕ
+  sent a = command (a .sealed) weak
+
+  abbrev rows : Run → List ℕ × List ℕ
+  rows a = (nibs (a .block), nibs (a .enciphered))
+
+  -- what is to be computed of a run: its frame, its code, its fields, its rows, its PIN and natural PIN
+  abbrev Computed : Run → List ℕ × List ℕ → Type 0
+  Computed a pair =
+      (isFramed 4 (sent a) ≡ true)
+      × (codeOf (drop 4 (sent a)) ≡ code.Bk)
+      × (bkFields false (sent a) 6 ≡ read p (p .trailer))
+      × (boxed true true (a .block) (a .enciphered) ≡ done (rows a))
+      × (pinWithNatural (p .sealed .format) (tableIn (sent a) p) (rows a .0, accountIn (sent a) p, rows a .1) ≡ done pair)
+
+  reading : (a : Run) (pair : List ℕ × List ℕ) → Computed a pair → Reads usually true true roomToAnswer (sent a) (a .block) (a .enciphered)
+  reading a pair c = record {
+    reaches = record { roomy = le-refl roomToAnswer; framed = c .0; coded = c .1; fields = p; past = p .trailer; read = c .2; rows = rows a; boxed = c .3 };
+    pin = pair .0;
+    natural = pair .1;
+    paired = c .4;
+  }
+
+  -- and of two: they are alike but for the block, their PINs have one length, and four digits are covered
+  abbrev Compared : Run → Run → List ℕ → List ℕ → Type 0
+  Compared a b pin pin′ =
+      (length (sent a) ≡ length (sent b))
+      × (take (p .sealed .block) (sent a) ≡ take (p .sealed .block) (sent b))
+      × (drop (p .sealed .block + 16) (sent a) ≡ drop (p .sealed .block + 16) (sent b))
+      × (length pin ≡ length pin′)
+      × (covers false (p .offsetting .check) (length pin) ≡ done 4)
+
+  meets : (a b : Run) (pair pair′ : List ℕ × List ℕ) → Computed a pair → Computed b pair′ → Compared a b (pair .0) (pair′ .0) → (pair .0 ≡ pair′ .0 → ⊥) → Meets weak a b
+  unfolding reading
+  meets a b pair pair′ c c′ d apart = record {
+    first = reading a pair c;
+    second = reading b pair′ c′;
+    alike = record { long = d .0; before = d .1; behind = d .2 };
+    long = d .3;
+    covered = d .4;
+    apart = apart;
+  }
+
+-- the PINs differ in their last digit, 7 and 8
+differ : (pin pin′ : List ℕ) → getD pin 4 0 ≡ 7 → getD pin′ 4 0 ≡ 8 → pin ≡ pin′ → ⊥
+differ pin pin′ h k e = omega (arith, ap (λ (ds : List ℕ). getD ds 4 0) e)
+
+pub assumptions-met : AssumptionsMet
+unfolding nibs xors every leading same allOf begins valueOf formats.codeOf contents readRow differences pinWithNatural isFramed opening run number trailer keyType hexKey lettered key lmkField listed weakField entries isOn keys formatField sealed validationField offsetting weak end boxed bkFields bkFinish bkAnswer answerBy answered
+assumptions-met = (
+  (
+    meets [] none runP9 runP10 pinP9 pinP10 (refl, refl, refl, refl, refl) (refl, refl, refl, refl, refl) (refl, refl, refl, refl, refl) (differ (pinP9 .0) (pinP10 .0) refl refl),
+    refl,
+  ),
+  (
+    meets [] none runP9 runOther pinP9 pinOther (refl, refl, refl, refl, refl) (refl, refl, refl, refl, refl) (refl, refl, refl, refl, refl) (differ (pinP9 .0) (pinOther .0) refl refl),
+    λ e. omega (arith, ap (λ (x : Said ℕ). getD (x .written) 11 0) e),
+  ),
+  (
+    meets bothListed both runP9 runP10 pinP9 pinP10 (refl, refl, refl, refl, refl) (refl, refl, refl, refl, refl) (refl, refl, refl, refl, refl) (differ (pinP9 .0) (pinP10 .0) refl refl),
+    refl,
+  ),
+  (
+    meets oneListed one runP9 runP10 pinP9 pinP10 (refl, refl, refl, refl, refl) (refl, refl, refl, refl, refl) (refl, refl, refl, refl, refl) (differ (pinP9 .0) (pinP10 .0) refl refl),
+    λ e. omega (arith, ap (λ (x : Said ℕ). x .number) e),
+  ),
+)

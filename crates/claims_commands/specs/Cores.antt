@@ -1,0 +1,49 @@
+-- The cores that the promises of the asking and the answering call reject, at the exchange that the paper prints and beside it.
+use Prim.Native.Nat.{ℕ, _≤_}
+use mathlib.Core.List.{List, [], _∷_, _++_}
+use mathlib.Core.Bool.{true}
+use lib.ListN.{length, replicate}
+use Rattle.numbers.specs.Promise.{Said, Does, quietly}
+use Rattle.numbers.specs.declared.Reply.{Reply}
+use Rattle.settings.specs.Settings.{usually}
+use Rattle.commands.specs.Commands.{roomToAsk, roomToAnswer, asked, answered}
+use Rattle.claims_blocks.specs.Figures.{usualAccount}
+use Rattle.claims_blocks.specs.Promises.{Only00, Apart}
+use Rattle.claims_offsets.specs.Figures.{blockP2, tableP9, encipheredP9, validationP12}
+use Rattle.claims_commands.specs.Witnesses.{front, zeroKey, formatAndCheck}
+
+-- the command of "Run, not proved", with an account
+abbrev pub commandOf : List ℕ → List ℕ
+commandOf account = front ++ (zeroKey ++ (zeroKey ++ (replicate 16 0x30 ++ (formatAndCheck ++ (account ++ (tableP9 ++ validationP12))))))
+
+-- account 400000123457
+abbrev pub otherAccount : List ℕ
+otherAccount = 0x34 ∷ 0x30 ∷ 0x30 ∷ 0x30 ∷ 0x30 ∷ 0x30 ∷ 0x31 ∷ 0x32 ∷ 0x33 ∷ 0x34 ∷ 0x35 ∷ 0x37 ∷ []
+
+-- an enciphered block of which the natural PIN is zeros
+abbrev pub encipheredZeros : List ℕ
+encipheredZeros = replicate 8 0
+
+-- what the asking call says to that command with an account, over the buffer that it is lent
+abbrev pub asks : List ℕ → List ℕ → Said ℕ
+asks account before = quietly (asked usually (commandOf account) (length before))
+
+-- what the answering call says to it, "with P2" and an enciphered block "and good parity"
+abbrev pub answers : List ℕ → List ℕ → Said ℕ
+answers enciphered before = answered usually true true (commandOf usualAccount) blockP2 enciphered (length before)
+
+-- a core that refuses everything is rejected, at each of the two calls: no answer but 00 fits
+abbrev pub CommandsNotRefusing : Type 0
+CommandsNotRefusing = ((before : List ℕ) → roomToAsk ≤ length before → Only00 (asks usualAccount before) before)
+    × ((before : List ℕ) → roomToAnswer ≤ length before → Only00 (answers encipheredP9 before) before)
+
+-- a core with one fixed block, or one fixed offset, is rejected: another account needs another block, another enciphered block another
+-- offset
+abbrev pub CommandsNotFixed : Type 0
+CommandsNotFixed = ((before : List ℕ) → roomToAsk ≤ length before → Apart (asks usualAccount before) (asks otherAccount before) before)
+    × ((before : List ℕ) → roomToAnswer ≤ length before → Apart (answers encipheredP9 before) (answers encipheredZeros before) before)
+
+-- a core that writes nothing is rejected, at each of the two calls: a buffer of zeros must not stay as it was
+abbrev pub CommandsNotSilent : Type 0
+CommandsNotSilent = ((room : ℕ) (r : Reply) → roomToAsk ≤ room → Does (asks usualAccount (replicate room 0)) (replicate room 0) r (replicate room 0) → ⊥)
+    × ((room : ℕ) (r : Reply) → roomToAnswer ≤ room → Does (answers encipheredP9 (replicate room 0)) (replicate room 0) r (replicate room 0) → ⊥)

@@ -1,0 +1,6 @@
+pub mod Promises
+pub mod Numbers
+pub mod Runs
+pub mod Claims
+pub mod Witnesses
+pub mod Cores
