@@ -1,0 +1,4 @@
+pub mod Once
+pub mod Ground
+pub mod Blocks
+pub mod Commands
