@@ -1,9 +1,9 @@
 -- One answer to every promise of the crates of PIN blocks: each function cites the law of its shape.
 -- Assumes nothing.
-use Rattle.claims_functions.specs.Blocks.{BlocksOnce, TranslationOnce, ValidationOnce, Ibm3624Once, PvvOnce, OffsetsOnce}
+use Rattle.claims_functions.specs.Blocks.{BlocksSettled, TranslationSettled, ValidationSettled, Ibm3624Settled, PvvSettled, OffsetsSettled}
 use Rattle.claims_functions.proofs.Once.{settled, left, answered}
 
-pub blocks-once : BlocksOnce
+pub blocks-once : BlocksSettled
 blocks-once = record {
   read = λ f with block. settled;
   write = λ f with pin fill. settled;
@@ -13,21 +13,21 @@ blocks-once = record {
   write-block = λ format pin account fill before. answered;
 }
 
-pub translation-once : TranslationOnce
+pub translation-once : TranslationSettled
 translation-once = record {
   Pair·by = λ restricted from to. settled;
   Pair·refusal = λ self. settled;
   translate = λ settings from to block account fill before. answered;
 }
 
-pub validation-once : ValidationOnce
+pub validation-once : ValidationSettled
 validation-once = record {
   Shape·of = λ characters. settled;
   validation-row = λ account validation. settled;
   validation-block = λ validation account before. answered;
 }
 
-pub ibm3624-once : Ibm3624Once
+pub ibm3624-once : Ibm3624Settled
 ibm3624-once = record {
   decimals = λ table. settled;
   natural = λ n table enciphered. settled;
@@ -39,14 +39,14 @@ ibm3624-once = record {
   natural-pin = λ length table enciphered before. answered;
 }
 
-pub pvv-once : PvvOnce
+pub pvv-once : PvvSettled
 pvv-once = record {
   pvv-input = λ format index block account before. answered;
   pvv = λ enciphered before. answered;
   pvv-verdict = λ format index block account enciphered pvv. answered;
 }
 
-pub offsets-once : OffsetsOnce
+pub offsets-once : OffsetsSettled
 offsets-once = record {
   Comparison·refusal = λ self. settled;
   with-natural = λ format table rows. settled;

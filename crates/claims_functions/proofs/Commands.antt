@@ -1,9 +1,9 @@
 -- One answer to every promise of the crates of commands: each function cites the law of its shape.
 -- Assumes nothing.
-use Rattle.claims_functions.specs.Commands.{FrameOnce, FieldsOnce, KeysOnce, WeakOnce, StagesOnce, BkOnce, CommandsOnce}
+use Rattle.claims_functions.specs.Commands.{FrameSettled, FieldsSettled, KeysSettled, WeakSettled, StagesSettled, BkSettled, CommandsSettled}
 use Rattle.claims_functions.proofs.Once.{settled, left, answered}
 
-pub frame-once : FrameOnce
+pub frame-once : FrameSettled
 frame-once = record {
   Code·at = λ command at. settled;
   is-framed = λ header command. settled;
@@ -11,7 +11,7 @@ frame-once = record {
   «open» = λ header command number before. left;
 }
 
-pub fields-once : FieldsOnce
+pub fields-once : FieldsSettled
 fields-once = record {
   Value·refusal = λ self. settled;
   two-digits = λ tens ones. settled;
@@ -21,7 +21,7 @@ fields-once = record {
   Cursor·trailer = λ self command. settled;
 }
 
-pub keys-once : KeysOnce
+pub keys-once : KeysSettled
 keys-once = record {
   Keyed·refusal = λ self. settled;
   Lmk·is-present = λ self. settled;
@@ -31,14 +31,14 @@ keys-once = record {
   lmk-field = λ cursor command. settled;
 }
 
-pub weak-once : WeakOnce
+pub weak-once : WeakSettled
 weak-once = record {
   WeakRead·refusal = λ self. settled;
   weak-field = λ cursor command mark. settled;
   is-weak = λ weak command n digits. settled;
 }
 
-pub stages-once : StagesOnce
+pub stages-once : StagesSettled
 stages-once = record {
   KeysRead·fault = λ self. settled;
   SealedRead·fault = λ self. settled;
@@ -55,7 +55,7 @@ stages-once = record {
   key-box = λ pinparity pvkparity block enciphered. settled;
 }
 
-pub bk-once : BkOnce
+pub bk-once : BkSettled
 bk-once = record {
   BkRead·refusal = λ self. settled;
   Finished·refusal = λ self. settled;
@@ -64,7 +64,7 @@ bk-once = record {
   answer = λ settings pinparity pvkparity command start block enciphered. settled;
 }
 
-pub commands-once : CommandsOnce
+pub commands-once : CommandsSettled
 commands-once = record {
   ask = λ settings command before. answered;
   answer = λ settings pinparity pvkparity command block enciphered before. answered;

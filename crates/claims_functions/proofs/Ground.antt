@@ -1,9 +1,9 @@
 -- One answer to every promise of the ground: each function cites the law of its shape.
 -- Assumes nothing.
-use Rattle.claims_functions.specs.Ground.{NibblesOnce, AlphabetOnce, NumbersOnce, SettingsOnce, FormatsOnce, PinsOnce}
+use Rattle.claims_functions.specs.Ground.{NibblesSettled, AlphabetSettled, NumbersSettled, SettingsSettled, FormatsSettled, PinsSettled}
 use Rattle.claims_functions.proofs.Once.{settled, left, replied}
 
-pub nibbles-once : NibblesOnce
+pub nibbles-once : NibblesSettled
 nibbles-once = record {
   high = λ b. settled;
   low = λ b. settled;
@@ -16,7 +16,7 @@ nibbles-once = record {
   run-end = λ w from to low high. settled;
 }
 
-pub alphabet-once : AlphabetOnce
+pub alphabet-once : AlphabetSettled
 alphabet-once = record {
   Class·admits = λ self c. settled;
   all-of = λ class s from to. settled;
@@ -25,14 +25,14 @@ alphabet-once = record {
   value = λ c. settled;
 }
 
-pub numbers-once : NumbersOnce
+pub numbers-once : NumbersSettled
 numbers-once = record {
   Reply·refused = λ q. replied;
   Reply·done = λ written. replied;
   Refusal·number = λ self. settled;
 }
 
-pub settings-once : SettingsOnce
+pub settings-once : SettingsSettled
 settings-once = record {
   Settings·usual = settled;
   Settings·with-header = λ self header. settled;
@@ -40,7 +40,7 @@ settings-once = record {
   Settings·with-variable = λ self variable. settled;
 }
 
-pub formats-once : FormatsOnce
+pub formats-once : FormatsSettled
 formats-once = record {
   Format·lead = λ self. settled;
   Format·fill-read = λ self. settled;
@@ -57,7 +57,7 @@ formats-once = record {
   block-width = λ code. settled;
 }
 
-pub pins-once : PinsOnce
+pub pins-once : PinsSettled
 pins-once = record {
   Reading·refusal = λ self. settled;
   Row·refusal = λ self. settled;

@@ -1,5 +1,6 @@
 -- One answer to every promise of the crates of PIN blocks: reading and writing, translation, validation data, offsets and PVVs.
--- Each line repeats what the function of its name ensures, its inputs as variables, the lent buffer as it was as `before`.
+-- Each line repeats by its text what the function of its name ensures, its inputs as variables, the lent buffer as it was as `before`.
+-- What a function requires is left out: no shape needs it, and outside it a contract promises nothing.
 use Prim.Native.Nat.{ℕ}
 use mathlib.Core.List.{List, [], _++_}
 use mathlib.Core.Bool.{Bool}
@@ -33,7 +34,7 @@ use Rattle.offsets.specs.Answers as comparison
 use Rattle.claims_functions.specs.Once.{Settled, Left}
 
 -- every public function of blocks
-pub record BlocksOnce : Type 0 where
+pub record BlocksSettled : Type 0 where
   pub read : (f : Format) (with block : ℕ) → Settled (readingOf (readRow f (row 16 with) (row 16 block)))
   pub write : (f : Format) (with : ℕ) (pin : Pin) (fill : ℕ) → Settled (word (writeRow f (row 16 with) (digitsOf pin) (row 16 fill)))
   pub answer : (judged : Row) (before : List ℕ) → OneAnswer (quietly (bytesOf judged)) before
@@ -42,20 +43,20 @@ pub record BlocksOnce : Type 0 where
   pub write-block : (format : ℕ) (pin account fill before : List ℕ) → OneAnswer (quietly (writeBlock format pin account fill (length before))) before
 
 -- every public function of translation
-pub record TranslationOnce : Type 0 where
+pub record TranslationSettled : Type 0 where
   pub Pair·by : (restricted : Bool) (from to : ℕ) → Settled (pairFrom (pairOf restricted from to))
   pub Pair·refusal : (self : Pair) → Settled (pair.refusalIn self)
   pub translate : (settings : Settings) (from to : ℕ) (block account fill before : List ℕ)
       → OneAnswer (quietly (translateBlock (settings .restricted) from to block account fill (length before))) before
 
 -- every public function of validation
-pub record ValidationOnce : Type 0 where
+pub record ValidationSettled : Type 0 where
   pub Shape·of : (characters : List ℕ) → Settled (shapeOf characters)
   pub validation-row : (account : ℕ) (validation : List ℕ) → Settled (rowOf (validationRow (row 12 account) validation))
   pub validation-block : (validation account before : List ℕ) → OneAnswer (quietly (validationBlock validation account (length before))) before
 
 -- every public function of ibm3624
-pub record Ibm3624Once : Type 0 where
+pub record Ibm3624Settled : Type 0 where
   pub decimals : (table : List ℕ) → Settled (rowOf (tableOf table))
   pub natural : (n table enciphered : ℕ) → Settled (pinOf (naturalOf n (row 16 table) (row 16 enciphered)))
   pub covering : (variable : Bool) (check n : ℕ) → Settled (countOf (covers variable check n))
@@ -66,13 +67,13 @@ pub record Ibm3624Once : Type 0 where
   pub natural-pin : (length : ℕ) (table enciphered before : List ℕ) → OneAnswer (quietly (naturalPin length table enciphered (lib.ListN.length before))) before
 
 -- every public function of pvv
-pub record PvvOnce : Type 0 where
+pub record PvvSettled : Type 0 where
   pub pvv-input : (format index : ℕ) (block account before : List ℕ) → OneAnswer (quietly (pvvInput format index block account (length before))) before
   pub pvv : (enciphered before : List ℕ) → OneAnswer (quietly (pvvMade enciphered (length before))) before
   pub pvv-verdict : (format index : ℕ) (block account enciphered pvv : List ℕ) → OneAnswer (quietly (pvvVerdict format index block account enciphered pvv)) []
 
 -- every public function of offsets
-pub record OffsetsOnce : Type 0 where
+pub record OffsetsSettled : Type 0 where
   pub Comparison·refusal : (self : Comparison) → Settled (comparison.refusalIn self)
   pub with-natural : (format : Format) (table : ℕ) (rows : Rows) → Settled (comparisonOf (pinWithNatural format (row 16 table) (rowsIn rows)))
   pub offset-for : (variable : Bool) (check : ℕ) (p : Compared) → Settled (readingOf (offsetFor variable check (pairIn p)))

@@ -1,5 +1,6 @@
 -- One answer to every promise of the crates of commands: frame, fields, keys, weak lists, stages, BK and the two calls.
--- Each line repeats what the function of its name ensures, its inputs as variables, the lent buffer as it was as `before`.
+-- Each line repeats by its text what the function of its name ensures, its inputs as variables, the lent buffer as it was as `before`.
+-- What a function requires is left out: no shape needs it, and outside it a contract promises nothing.
 use Prim.Native.Nat.{ℕ, _+_, _*_}
 use mathlib.Core.List.{List, _++_}
 use mathlib.Core.Bool.{Bool}
@@ -49,14 +50,14 @@ use Rattle.bk.specs.Answers as finished
 use Rattle.claims_functions.specs.Once.{Settled, Left}
 
 -- every public function of frame
-pub record FrameOnce : Type 0 where
+pub record FrameSettled : Type 0 where
   pub Code·at : (command : List ℕ) (at : ℕ) → Settled (codeOf (drop at command))
   pub is-framed : (header : ℕ) (command : List ℕ) → Settled (isFramed header command)
   pub put-run : (run before : List ℕ) → Left (run ++ drop (length run) before)
   pub «open» : (header : ℕ) (command : List ℕ) (number : ℕ) (before : List ℕ) → Left (opening header command number ++ drop (header + 4) before)
 
 -- every public function of fields
-pub record FieldsOnce : Type 0 where
+pub record FieldsSettled : Type 0 where
   pub Value·refusal : (self : Value) → Settled (value.refusalIn self)
   pub two-digits : (tens ones : ℕ) → Settled (valueOf tens * 10 + valueOf ones)
   pub Cursor·run : (self : Cursor) (command : List ℕ) (n : ℕ) (class : Class) (missing wrong : Refusal) → Settled (valueFrom (self .at) (run class missing wrong n (drop (self .at) command)))
@@ -65,7 +66,7 @@ pub record FieldsOnce : Type 0 where
   pub Cursor·trailer : (self : Cursor) (command : List ℕ) → Settled (valueFrom (self .at) (trailer (drop (self .at) command)))
 
 -- every public function of keys
-pub record KeysOnce : Type 0 where
+pub record KeysSettled : Type 0 where
   pub Keyed·refusal : (self : Keyed) → Settled (keyed.refusalIn self)
   pub Lmk·is-present : (self : Lmk) → Settled (present self)
   pub Lmk·agrees : (self other : Lmk) → Settled (agree self other)
@@ -74,13 +75,13 @@ pub record KeysOnce : Type 0 where
   pub lmk-field : (cursor : Cursor) (command : List ℕ) → Settled (keyedFrom (cursor .at) (lmkField (drop (cursor .at) command)))
 
 -- every public function of weak
-pub record WeakOnce : Type 0 where
+pub record WeakSettled : Type 0 where
   pub WeakRead·refusal : (self : WeakRead) → Settled (weak-read.refusalIn self)
   pub weak-field : (cursor : Cursor) (command : List ℕ) (mark : ℕ) → Settled (weakFrom (cursor .at) (weakField mark (cursor .at) (drop (cursor .at) command)))
   pub is-weak : (weak : Weak) (command : List ℕ) (n digits : ℕ) → Settled (isOn (row n digits) (weakPins weak command))
 
 -- every public function of stages
-pub record StagesOnce : Type 0 where
+pub record StagesSettled : Type 0 where
   pub KeysRead·fault : (self : KeysRead) → Settled (keysFault self)
   pub SealedRead·fault : (self : SealedRead) → Settled (sealedFault self)
   pub OffsettingRead·fault : (self : OffsettingRead) → Settled (offsettingFault self)
@@ -96,7 +97,7 @@ pub record StagesOnce : Type 0 where
   pub key-box : (pinparity pvkparity : Bool) (block enciphered : List ℕ) → Settled (boxRead (boxed pinparity pvkparity block enciphered))
 
 -- every public function of bk
-pub record BkOnce : Type 0 where
+pub record BkSettled : Type 0 where
   pub BkRead·refusal : (self : BkRead) → Settled (fieldsRefusal self)
   pub Finished·refusal : (self : Finished) → Settled (finished.refusalIn self)
   pub read : (restricted : Bool) (command : List ℕ) (start : Cursor) → Settled (bkRead (bkFields restricted command (start .at)))
@@ -105,7 +106,7 @@ pub record BkOnce : Type 0 where
       → Settled (finishedOf (bkAnswer settings pinparity pvkparity command (start .at) block enciphered))
 
 -- every public function of commands
-pub record CommandsOnce : Type 0 where
+pub record CommandsSettled : Type 0 where
   pub ask : (settings : Settings) (command before : List ℕ) → OneAnswer (quietly (asked settings command (length before))) before
   pub answer : (settings : Settings) (pinparity pvkparity : Bool) (command block enciphered before : List ℕ)
       → OneAnswer (answered settings pinparity pvkparity command block enciphered (length before)) before

@@ -1,5 +1,6 @@
 -- One answer to every promise of the ground: nibbles, characters, numbers, settings, formats, PINs and accounts.
--- Each line repeats what the function of its name ensures, its inputs as variables, the lent buffer as it was as `before`.
+-- Each line repeats by its text what the function of its name ensures, its inputs as variables, the lent buffer as it was as `before`.
+-- What a function requires is left out: no shape needs it, and outside it a contract promises nothing.
 use Prim.Native.Nat.{ℕ, _/_, _%_, _+_, _*_, _^_, _-_}
 use mathlib.Core.List.{List, _++_, map}
 use mathlib.Core.Bool.{Bool}
@@ -28,7 +29,7 @@ use Rattle.pins.specs.Answers as reading
 use Rattle.claims_functions.specs.Once.{Settled, Left, Replied}
 
 -- every public function of nibbles
-pub record NibblesOnce : Type 0 where
+pub record NibblesSettled : Type 0 where
   pub high : (b : ℕ) → Settled (b / 16)
   pub low : (b : ℕ) → Settled (b % 16)
   pub nibble : (w i : ℕ) → Settled (getD (row 16 w) i 0)
@@ -40,7 +41,7 @@ pub record NibblesOnce : Type 0 where
   pub run-end : (w from to low high : ℕ) → Settled (from + length (leading (within low high) (slice from to (row 16 w))))
 
 -- every public function of alphabet
-pub record AlphabetOnce : Type 0 where
+pub record AlphabetSettled : Type 0 where
   pub Class·admits : (self : Class) (c : ℕ) → Settled (admits self c)
   pub all-of : (class : Class) (s : List ℕ) (from to : ℕ) → Settled (allOf class (slice from to s))
   pub ahead : (s : List ℕ) (from : ℕ) → Settled (length s - from)
@@ -48,20 +49,20 @@ pub record AlphabetOnce : Type 0 where
   pub value : (c : ℕ) → Settled (valueOf c)
 
 -- every public function of numbers
-pub record NumbersOnce : Type 0 where
+pub record NumbersSettled : Type 0 where
   pub Reply·refused : (q : Refusal) → Replied (numberOf q) 0
   pub Reply·done : (written : ℕ) → Replied 0 written
   pub Refusal·number : (self : Refusal) → Settled (numberOf self)
 
 -- every public function of settings
-pub record SettingsOnce : Type 0 where
+pub record SettingsSettled : Type 0 where
   pub Settings·usual : Settled usually
   pub Settings·with-header : (self : Settings) (header : ℕ) → Settled (headed self header)
   pub Settings·with-restricted : (self : Settings) (restricted : Bool) → Settled (restrictedTo self restricted)
   pub Settings·with-variable : (self : Settings) (variable : Bool) → Settled (variably self variable)
 
 -- every public function of formats
-pub record FormatsOnce : Type 0 where
+pub record FormatsSettled : Type 0 where
   pub Format·lead : (self : Format) → Settled (leadOf self)
   pub Format·fill-read : (self : Format) → Settled (fillRead self)
   pub Format·fill-written : (self : Format) → Settled (fillWritten self)
@@ -77,7 +78,7 @@ pub record FormatsOnce : Type 0 where
   pub block-width : (code : ℕ) → Settled (blockWidth code)
 
 -- every public function of pins
-pub record PinsOnce : Type 0 where
+pub record PinsSettled : Type 0 where
   pub Reading·refusal : (self : Reading) → Settled (reading.refusalIn self)
   pub Row·refusal : (self : Row) → Settled (refusedIn self)
   pub sized-row : (bytes : List ℕ) (width : ℕ) → Settled (rowOf (sized width bytes))

@@ -4,3 +4,5 @@ pub mod Texts
 pub mod Digits
 pub mod Promises
 pub mod Converse
+pub mod Numbers
+pub mod Cores

@@ -1,0 +1,66 @@
+-- The cores that the promises of the offset call and of the PVV call reject: what the calls say there is computed.
+-- Assumes nothing.
+use Prim.Native.Nat.{ℕ, _≤_}
+use native.Mathlib.Omega.{arith}
+use mathlib.Core.Path.{_≡_, refl, sym, ap, _∙_}
+use mathlib.Core.List.{List, _∷_}
+use mathlib.Core.Bool.{Bool, false}
+use lib.ListN.{length, getD}
+use borrow.Author.Tests.{le-leb}
+use Rattle.nibbles.specs.Nibbles.{nibs, xors, every, leading}
+use Rattle.alphabet.specs.Alphabet.{allOf, valueOf}
+use Rattle.numbers.specs.Numbers.{Outcome, done}
+use Rattle.numbers.specs.Promise.{Does, quietly}
+use Rattle.numbers.specs.declared.Reply.{Reply}
+use Rattle.formats.specs.Formats.{codeOf}
+use Rattle.blocks.specs.Blocks.{contents, readRow}
+use Rattle.ibm3624.specs.Ibm3624.{differences}
+use Rattle.offsets.specs.Offsets.{given, pinWithNatural, pinAndNatural, offsetJudged, offsetMade}
+use Rattle.pvv.specs.Pvv.{those, pvvOf, pvvMade}
+use Rattle.claims_blocks.specs.Figures.{usualAccount}
+use Rattle.claims_blocks.specs.Promises.{Only00, Apart}
+use Rattle.claims_offsets.specs.Figures.{blockP2, tableP9, encipheredP9}
+use Rattle.claims_offsets.specs.Cores.{encipheredP11, lettersP11, OffsetsNotRefusing, OffsetsNotFixed}
+
+-- ---- what an answer must be where a call comes to a value
+
+-- it is 00
+only-00 : {o : Outcome (List ℕ)} {xs : List ℕ} (before : List ℕ) → o ≡ done xs → Only00 (quietly o) before
+only-00 before e r after d = d .number ∙ ap (λ (x : Outcome (List ℕ)). quietly x .number) e
+
+-- and the value begins the buffer
+begins : {o : Outcome (List ℕ)} {x : ℕ} {xs : List ℕ} (before after : List ℕ) (r : Reply) → o ≡ done (x ∷ xs) → Does (quietly o) before r after → getD after 0 0 ≡ x
+begins before after r e d = ap (λ (bs : List ℕ). getD bs 0 0) (rw e at (d .buffer))
+
+-- so no answer fits two values that begin with another element
+apart : {o o′ : Outcome (List ℕ)} {x y : ℕ} {xs ys : List ℕ} (before : List ℕ) → o ≡ done (x ∷ xs) → o′ ≡ done (y ∷ ys) → (x ≡ y → ⊥) → Apart (quietly o) (quietly o′) before
+apart before e e′ n r after d d′ = n (sym (begins before after r e d) ∙ begins before after r e′ d′)
+
+-- ---- what the two calls say
+
+-- more room than enough changes nothing
+offset-room : (variable : Bool) (code check : ℕ) (block account table enciphered : List ℕ) (room : ℕ) → 12 ≤ room
+    → offsetMade variable code check block account table enciphered room ≡ offsetMade variable code check block account table enciphered 12
+unfolding offsetJudged
+offset-room variable code check block account table enciphered room h = rw (le-leb 12 room h)
+
+pvv-room : (enciphered : List ℕ) (room : ℕ) → 4 ≤ room → pvvMade enciphered room ≡ pvvMade enciphered 4
+unfolding pvvMade
+pvv-room enciphered room h = rw (le-leb 4 room h)
+
+-- ---- the cores
+
+pub offsets-not-refusing : OffsetsNotRefusing
+unfolding nibs xors every leading allOf valueOf codeOf contents readRow differences given pinWithNatural pinAndNatural offsetJudged those pvvOf pvvMade
+offsets-not-refusing = (
+  λ before h. only-00 before (offset-room false 1 4 blockP2 usualAccount tableP9 encipheredP9 (length before) h ∙ refl),
+  λ before h. only-00 before (pvv-room encipheredP11 (length before) h ∙ refl),
+)
+
+pub offsets-not-fixed : OffsetsNotFixed
+unfolding nibs xors every leading allOf valueOf codeOf contents readRow differences given pinWithNatural pinAndNatural offsetJudged those pvvOf pvvMade
+offsets-not-fixed = (
+  λ before h. apart before (offset-room false 1 4 blockP2 usualAccount tableP9 encipheredP9 (length before) h ∙ refl)
+      (offset-room false 1 5 blockP2 usualAccount tableP9 encipheredP9 (length before) h ∙ refl) (omega arith),
+  λ before h. apart before (pvv-room encipheredP11 (length before) h ∙ refl) (pvv-room lettersP11 (length before) h ∙ refl) (omega arith),
+)
