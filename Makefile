@@ -1,5 +1,5 @@
 # Short names for the steps of the gate. What each does stands in .ci/step.
-.PHONY: check setup prove archive host vectors compare compare-offsets compare-commands header reference fmt clean
+.PHONY: check setup prove archive host vectors compare compare-offsets compare-commands lessons lab header reference fmt clean
 
 check:
 	.ci/run
@@ -16,7 +16,7 @@ archive header reference: setup
 host: archive
 	.ci/step $@
 
-vectors compare compare-offsets compare-commands: host
+vectors compare compare-offsets compare-commands lessons lab: host
 	.ci/step $@
 
 fmt:

@@ -1,0 +1,136 @@
+/*
+ * labhost play FILE...: plays class scripts through the asking and the
+ * answering call, prints every exchange, and says where one went otherwise
+ * than the script expects. The last line is 'lessons: N passed, M failed',
+ * counted in exchanges.
+ *
+ * labhost record FILE: writes the script to stdout with what the calls do
+ * today in its `asks` and `answers` lines, and everything else as it was. A
+ * recorded script says what the box does: that it is right, only a reading of
+ * the paper says.
+ *
+ * The form of a script is told in script.h. All of a script is read before
+ * anything is played or recorded. Where a line of any of them is malformed,
+ * nothing is: 'FILE:LINE: what is wrong' goes to stderr. Status 0: all went as
+ * expected; 1: something did not; 2: a script or the words were malformed.
+ */
+#include <stdio.h>
+#include <string.h>
+
+#include "player.h"
+#include "script.h"
+
+#define STATUS_FAILED 1
+#define STATUS_MALFORMED 2
+
+struct score {
+	unsigned passed;
+	unsigned failed;
+};
+
+/* A script is long, and one is read at a time. */
+static struct script script;
+
+/* Whether a script is well formed from its first line to its last. */
+static bool check(const char *path, bool may_be_open)
+{
+	enum script_step step;
+
+	if (!script_open(&script, path, may_be_open)) {
+		fprintf(stderr, "%s: the file cannot be opened\n", path);
+		return false;
+	}
+	do
+		step = script_next(&script);
+	while (step != SCRIPT_END && step != SCRIPT_FAULT);
+	if (step == SCRIPT_FAULT)
+		fprintf(stderr, "%s:%u: %s\n", path, script.line, script.fault);
+	script_close(&script);
+	return step == SCRIPT_END;
+}
+
+static void play_exchange(const char *path, struct score *score)
+{
+	const char *name = script.now.name;
+
+	printf("%s:%u: %s\n", path, script.line, name[0] != '\0' ? name : "without a name");
+	if (player_play(&script.now))
+		score->passed++;
+	else
+		score->failed++;
+	putchar('\n');
+}
+
+/* Plays a script that was checked. False: it has become another since. */
+static bool play_file(const char *path, struct score *score)
+{
+	enum script_step step;
+
+	if (!script_open(&script, path, false))
+		return false;
+	do {
+		step = script_next(&script);
+		if (step == SCRIPT_ANSWERS)
+			play_exchange(path, score);
+	} while (step != SCRIPT_END && step != SCRIPT_FAULT);
+	script_close(&script);
+	return step == SCRIPT_END;
+}
+
+static int play(char **paths, int len)
+{
+	struct score score = { 0, 0 };
+	bool well_formed = true;
+
+	/* every malformed script is told, and not the first alone */
+	for (int i = 0; i < len; i++)
+		if (!check(paths[i], false))
+			well_formed = false;
+	if (!well_formed)
+		return STATUS_MALFORMED;
+	for (int i = 0; i < len; i++)
+		if (!play_file(paths[i], &score))
+			score.failed++;
+	printf("lessons: %u passed, %u failed\n", score.passed, score.failed);
+	return score.failed == 0 && score.passed > 0 ? 0 : STATUS_FAILED;
+}
+
+/* Writes the line that was read, with another expectation where it has one. */
+static void record_line(enum script_step step)
+{
+	bool expects = step == SCRIPT_ASKS || step == SCRIPT_ANSWERS;
+	size_t kept = expects ? (size_t)(script.rest - script.text) : strlen(script.text);
+
+	fwrite(script.text, 1, kept, stdout);
+	if (step == SCRIPT_ASKS)
+		player_write_asked(&script.now);
+	if (step == SCRIPT_ANSWERS)
+		player_write_answered(&script.now);
+	putchar('\n');
+}
+
+static int record(const char *path)
+{
+	if (!check(path, true))
+		return STATUS_MALFORMED;
+	if (!script_open(&script, path, true))
+		return STATUS_MALFORMED;
+	enum script_step step = script_next(&script);
+	while (step != SCRIPT_END && step != SCRIPT_FAULT) {
+		record_line(step);
+		step = script_next(&script);
+	}
+	script_close(&script);
+	return step == SCRIPT_END ? 0 : STATUS_FAILED;
+}
+
+int main(int argc, char **argv)
+{
+	if (argc >= 3 && strcmp(argv[1], "play") == 0)
+		return play(argv + 2, argc - 2);
+	if (argc == 3 && strcmp(argv[1], "record") == 0)
+		return record(argv[2]);
+	fprintf(stderr, "usage: labhost play FILE...\n"
+		"       labhost record FILE\n");
+	return STATUS_MALFORMED;
+}

@@ -1,0 +1,12 @@
+/*
+ * The paper's numbers in words.
+ */
+#ifndef HOST_MEANINGS_H
+#define HOST_MEANINGS_H
+
+#include <stdint.h>
+
+/* What a number means, or NULL where the paper has no such number. */
+const char *meaning_of(uint32_t number);
+
+#endif

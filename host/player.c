@@ -1,0 +1,198 @@
+#include "player.h"
+
+#include <stdio.h>
+#include <string.h>
+
+#include "meanings.h"
+#include "text.h"
+
+/* What the lent output holds before a call. */
+#define UNTOUCHED 0xA5
+
+#define SENT(e) (e)->command, (e)->command_len
+
+void player_ask(const struct script_exchange *e, struct player_outcome *outcome)
+{
+	memset(outcome->out, UNTOUCHED, sizeof outcome->out);
+	outcome->reply = qg_ask(e->settings, SENT(e), outcome->out, e->room);
+}
+
+void player_answer(const struct script_exchange *e, struct player_outcome *outcome)
+{
+	memset(outcome->out, UNTOUCHED, sizeof outcome->out);
+	outcome->reply = qg_answer(e->settings, e->pin_key_parity_good,
+		e->pvk_parity_good, SENT(e), e->block.at, e->block.len,
+		e->enciphered.at, e->enciphered.len, outcome->out, e->room);
+}
+
+/* How many bytes can be shown: a call that counts more than it was lent is
+ * not believed. */
+static size_t shown(const struct player_outcome *outcome)
+{
+	return outcome->reply.written <= SCRIPT_ROOM ? outcome->reply.written : SCRIPT_ROOM;
+}
+
+static const char *in_words(uint32_t number)
+{
+	const char *words = meaning_of(number);
+
+	return words != NULL ? words : "not a number of the paper";
+}
+
+static void show_slice(const char *name, const struct script_slice *slice)
+{
+	printf("  %-11s ", name);
+	text_show_hex(stdout, slice->at, slice->len);
+	putchar('\n');
+}
+
+static void show_outcome(const char *name, const struct player_outcome *outcome,
+	void (*show)(FILE *stream, const uint8_t *bytes, size_t len))
+{
+	printf("  %-11s %02u, %s\n", name, (unsigned)outcome->reply.number,
+		in_words(outcome->reply.number));
+	if (outcome->reply.written == 0)
+		return;
+	printf("  %-11s ", "");
+	show(stdout, outcome->out, shown(outcome));
+	putchar('\n');
+}
+
+static const char *yes_or_no(uint8_t flag)
+{
+	return flag != 0 ? "yes" : "no";
+}
+
+static const char *good_or_bad(uint8_t parity)
+{
+	return parity != 0 ? "good" : "bad";
+}
+
+static void show_handed(const struct script_exchange *e)
+{
+	printf("  %-11s header %zu, restricted %s, variable %s; room %zu\n", "settings",
+		e->settings.header, yes_or_no(e->settings.restricted),
+		yes_or_no(e->settings.variable), e->room);
+	printf("  %-11s ", "command");
+	text_show(stdout, SENT(e));
+	putchar('\n');
+}
+
+static void show_key_box(const struct script_exchange *e)
+{
+	show_slice("block", &e->block);
+	show_slice("enciphered", &e->enciphered);
+	printf("  %-11s %s %s\n", "parity", good_or_bad(e->pin_key_parity_good),
+		good_or_bad(e->pvk_parity_good));
+}
+
+static void show_byte(uint8_t byte)
+{
+	printf("%02X hex", byte);
+	if (byte > ' ' && byte <= '~')
+		printf(" (%c)", byte);
+}
+
+/* Whether the number is the expected one. */
+static bool hold_number(const char *name, uint32_t got, uint32_t expected)
+{
+	if (got == expected)
+		return true;
+	printf("  DIFFERS     %s: the number is %02u, %s; expected %02u, %s\n", name,
+		(unsigned)got, in_words(got), (unsigned)expected, in_words(expected));
+	return false;
+}
+
+static bool hold_length(const char *name, uint32_t got, size_t expected)
+{
+	if (got == expected)
+		return true;
+	printf("  DIFFERS     %s: %u bytes are written, expected %zu\n", name,
+		(unsigned)got, expected);
+	return false;
+}
+
+/* Whether the output is the expected bytes and behind them untouched. The first
+ * byte that is not is told. */
+static bool hold_bytes(const char *name, const struct player_outcome *outcome,
+	const struct script_expected *expected)
+{
+	for (size_t i = 0; i < sizeof outcome->out; i++) {
+		uint8_t want = i < expected->len ? expected->bytes[i] : UNTOUCHED;
+
+		if (outcome->out[i] == want)
+			continue;
+		printf("  DIFFERS     %s: byte %zu is ", name, i);
+		show_byte(outcome->out[i]);
+		printf(", expected ");
+		if (i < expected->len)
+			show_byte(want);
+		else
+			printf("none");
+		printf("; the first byte is byte 0\n");
+		return false;
+	}
+	return true;
+}
+
+static bool hold(const char *name, const struct player_outcome *outcome,
+	const struct script_expected *expected)
+{
+	bool number = hold_number(name, outcome->reply.number, expected->number);
+	bool length = hold_length(name, outcome->reply.written, expected->len);
+	bool bytes = hold_bytes(name, outcome, expected);
+
+	return number && length && bytes;
+}
+
+static void show_expected(const char *name, const struct script_expected *expected,
+	void (*show)(FILE *stream, const uint8_t *bytes, size_t len))
+{
+	printf("  expected    %s: %02u", name, (unsigned)expected->number);
+	if (expected->len > 0)
+		printf(", ");
+	show(stdout, expected->bytes, expected->len);
+	putchar('\n');
+}
+
+bool player_play(const struct script_exchange *e)
+{
+	struct player_outcome asked, answered;
+
+	player_ask(e, &asked);
+	player_answer(e, &answered);
+	show_handed(e);
+	show_outcome("asks", &asked, text_show_hex);
+	show_key_box(e);
+	show_outcome("answers", &answered, text_show);
+	bool asked_well = hold("asks", &asked, &e->asks);
+	if (!asked_well)
+		show_expected("asks", &e->asks, text_show_hex);
+	bool answered_well = hold("answers", &answered, &e->answers);
+	if (!answered_well)
+		show_expected("answers", &e->answers, text_show);
+	printf("  %s\n", asked_well && answered_well ? "passed" : "FAILED");
+	return asked_well && answered_well;
+}
+
+void player_write_asked(const struct script_exchange *e)
+{
+	struct player_outcome asked;
+
+	player_ask(e, &asked);
+	if (asked.reply.number == 0)
+		text_show_hex(stdout, asked.out, shown(&asked));
+	else
+		printf("%02u", (unsigned)asked.reply.number);
+}
+
+void player_write_answered(const struct script_exchange *e)
+{
+	struct player_outcome answered;
+
+	player_answer(e, &answered);
+	if (answered.reply.written > 0)
+		text_show(stdout, answered.out, shown(&answered));
+	else
+		printf("nothing %02u", (unsigned)answered.reply.number);
+}

@@ -1,0 +1,374 @@
+#include "script.h"
+
+#include <string.h>
+
+#include "meanings.h"
+#include "text.h"
+
+#define BLOCK 8
+
+/* A response has at least its code and its number behind the header. */
+#define CODE 2
+#define NUMBER 2
+
+/* No number in a script has more figures. */
+#define FIGURES 3
+
+/* When a line of a kind may stand. */
+enum place {
+	PLACE_BEFORE_ASKS,  /* what the asking call is handed */
+	PLACE_ANY,
+};
+
+/* A kind of line: its first word, and how the rest of it is taken. What is
+ * wrong with the rest, or NULL. */
+struct kind {
+	const char *word;
+	enum place place;
+	enum script_step step;
+	const char *(*take)(struct script *script, const char *rest);
+};
+
+static const char *take_name(struct script *script, const char *rest)
+{
+	size_t len = strlen(rest);
+
+	if (len == 0)
+		return "name: no words follow";
+	if (len >= SCRIPT_NAME)
+		return "name: longer than 127 characters";
+	memcpy(script->now.name, rest, len + 1);
+	return NULL;
+}
+
+static const char *take_usual(struct script *script, const char *rest)
+{
+	if (*rest != '\0')
+		return "usual: it stands alone in its line";
+	script->now.settings = qg_usual();
+	return NULL;
+}
+
+/* Reads one to three decimal figures and nothing else. */
+static bool read_number(const char *words, uint32_t *number)
+{
+	size_t len = strlen(words);
+
+	*number = 0;
+	if (len == 0 || len > FIGURES)
+		return false;
+	for (size_t i = 0; i < len; i++) {
+		if (words[i] < '0' || words[i] > '9')
+			return false;
+		*number = *number * 10 + (uint32_t)(words[i] - '0');
+	}
+	return true;
+}
+
+static const char *take_header(struct script *script, const char *rest)
+{
+	uint32_t number;
+
+	/* over 16 is admitted: the box answers it with 902 */
+	if (!read_number(rest, &number))
+		return "header: a number of one to three figures must follow";
+	script->now.settings.header = number;
+	return NULL;
+}
+
+static const char *take_flag(const char *rest, uint8_t *flag)
+{
+	bool yes = strcmp(rest, "yes") == 0;
+
+	if (!yes && strcmp(rest, "no") != 0)
+		return "this setting is yes or no";
+	*flag = yes;
+	return NULL;
+}
+
+static const char *take_restricted(struct script *script, const char *rest)
+{
+	return take_flag(rest, &script->now.settings.restricted);
+}
+
+static const char *take_variable(struct script *script, const char *rest)
+{
+	return take_flag(rest, &script->now.settings.variable);
+}
+
+static const char *take_room(struct script *script, const char *rest)
+{
+	uint32_t number;
+
+	if (!read_number(rest, &number) || number > SCRIPT_ROOM)
+		return "room: a number from 0 to 128 must follow";
+	script->now.room = number;
+	return NULL;
+}
+
+static const char *take_more(struct script *script, const char *rest)
+{
+	struct script_exchange *now = &script->now;
+	struct text_bytes bytes = { now->command, now->command_len, SCRIPT_COMMAND };
+
+	if (!script->in_command)
+		return "more: no command line stands before it";
+	const char *fault = text_read(rest, &bytes);
+	now->command_len = bytes.len;
+	return fault;
+}
+
+static const char *take_command(struct script *script, const char *rest)
+{
+	script->now.command_len = 0;
+	script->now.command_given = true;
+	script->in_command = true;
+	return take_more(script, rest);
+}
+
+static const char *take_slice(const char *rest, struct script_slice *slice)
+{
+	struct text_bytes bytes = { slice->at, 0, SCRIPT_SLICE };
+	const char *fault = text_read_hex(rest, &bytes);
+
+	slice->len = bytes.len;
+	slice->given = true;
+	return fault;
+}
+
+static const char *take_block(struct script *script, const char *rest)
+{
+	return take_slice(rest, &script->now.block);
+}
+
+static const char *take_enciphered(struct script *script, const char *rest)
+{
+	return take_slice(rest, &script->now.enciphered);
+}
+
+/* Reads good or bad and moves behind it. */
+static bool read_parity(const char **rest, uint8_t *good)
+{
+	*good = strncmp(*rest, "good", 4) == 0;
+	if (!*good && strncmp(*rest, "bad", 3) != 0)
+		return false;
+	*rest += *good ? 4 : 3;
+	return true;
+}
+
+static const char *take_parity(struct script *script, const char *rest)
+{
+	static const char fault[] = "parity: good or bad must follow for the PIN key, then for the PVK";
+
+	if (!read_parity(&rest, &script->now.pin_key_parity_good) || *rest != ' ')
+		return fault;
+	rest += strspn(rest, " ");
+	if (!read_parity(&rest, &script->now.pvk_parity_good) || *rest != '\0')
+		return fault;
+	return NULL;
+}
+
+static bool is_open(const char *rest)
+{
+	return strcmp(rest, "?") == 0;
+}
+
+/* An open expectation can be recorded, but nothing can be held to it. */
+static const char *take_open(const struct script *script)
+{
+	return script->may_be_open ? NULL : "? can be recorded but not played";
+}
+
+static const char *take_asks(struct script *script, const char *rest)
+{
+	struct script_expected *asks = &script->now.asks;
+	struct text_bytes bytes = { asks->bytes, 0, SCRIPT_ROOM };
+
+	if (asks->given)
+		return "asks: this exchange has such a line already";
+	if (!script->now.command_given)
+		return "asks: no command line stands before it";
+	asks->given = true;
+	if (is_open(rest))
+		return take_open(script);
+	if (read_number(rest, &asks->number))
+		return asks->number != 0 && meaning_of(asks->number) != NULL ? NULL :
+			"asks: the paper has no refusal of this number";
+	if (text_read_hex(rest, &bytes) != NULL || bytes.len != BLOCK)
+		return "asks: a block of 8 bytes in hex must follow, or the number of a refusal";
+	asks->len = bytes.len;
+	return NULL;
+}
+
+/* Takes the number out of an expected response: two digits behind header and
+ * code. */
+static bool number_within(const qg_settings *settings, struct script_expected *answers)
+{
+	char digits[NUMBER + 1] = "";
+
+	if (answers->len < settings->header + CODE + NUMBER)
+		return false;
+	memcpy(digits, answers->bytes + settings->header + CODE, NUMBER);
+	return strlen(digits) == NUMBER && read_number(digits, &answers->number);
+}
+
+static const char *take_response(struct script *script, const char *rest)
+{
+	static const char nothing[] = "nothing ";
+	struct script_expected *answers = &script->now.answers;
+	struct text_bytes bytes = { answers->bytes, 0, SCRIPT_ROOM };
+
+	answers->given = true;
+	if (is_open(rest))
+		return take_open(script);
+	if (strncmp(rest, nothing, sizeof nothing - 1) == 0)
+		return read_number(rest + sizeof nothing - 1, &answers->number) &&
+			(answers->number == 901 || answers->number == 902) ? NULL :
+			"answers: behind nothing stands 901 or 902";
+	const char *fault = text_read(rest, &bytes);
+	answers->len = bytes.len;
+	if (fault == NULL && !number_within(&script->now.settings, answers))
+		return "answers: a response is header, response code, a two-digit number and what follows";
+	return fault;
+}
+
+static const char *take_answers(struct script *script, const char *rest)
+{
+	const struct script_exchange *now = &script->now;
+
+	if (!now->asks.given)
+		return "answers: this exchange has no asks line";
+	if (!now->block.given)
+		return "answers: no block line stands before it";
+	if (!now->enciphered.given)
+		return "answers: no enciphered line stands before it";
+	return take_response(script, rest);
+}
+
+static const struct kind kinds[] = {
+	{ "name", PLACE_BEFORE_ASKS, SCRIPT_OTHER, take_name },
+	{ "usual", PLACE_BEFORE_ASKS, SCRIPT_OTHER, take_usual },
+	{ "header", PLACE_BEFORE_ASKS, SCRIPT_OTHER, take_header },
+	{ "restricted", PLACE_BEFORE_ASKS, SCRIPT_OTHER, take_restricted },
+	{ "variable", PLACE_BEFORE_ASKS, SCRIPT_OTHER, take_variable },
+	{ "room", PLACE_BEFORE_ASKS, SCRIPT_OTHER, take_room },
+	{ "command", PLACE_BEFORE_ASKS, SCRIPT_OTHER, take_command },
+	{ "more", PLACE_BEFORE_ASKS, SCRIPT_OTHER, take_more },
+	{ "block", PLACE_ANY, SCRIPT_OTHER, take_block },
+	{ "enciphered", PLACE_ANY, SCRIPT_OTHER, take_enciphered },
+	{ "parity", PLACE_ANY, SCRIPT_OTHER, take_parity },
+	{ "asks", PLACE_ANY, SCRIPT_ASKS, take_asks },
+	{ "answers", PLACE_ANY, SCRIPT_ANSWERS, take_answers },
+};
+
+static const struct kind *kind_of(const char *word, size_t len)
+{
+	for (size_t i = 0; i < sizeof kinds / sizeof kinds[0]; i++)
+		if (strlen(kinds[i].word) == len && memcmp(kinds[i].word, word, len) == 0)
+			return &kinds[i];
+	return NULL;
+}
+
+static enum script_step refuse(struct script *script, const char *fault)
+{
+	script->fault = fault;
+	return SCRIPT_FAULT;
+}
+
+/* Drops what is the matter of one exchange alone. */
+static void begin_exchange(struct script *script)
+{
+	script->now.name[0] = '\0';
+	memset(&script->now.asks, 0, sizeof script->now.asks);
+	memset(&script->now.answers, 0, sizeof script->now.answers);
+	script->begun = false;
+}
+
+/* Takes a line that is neither blank nor a comment. */
+static enum script_step take_line(struct script *script, const char *word)
+{
+	size_t len = strcspn(word, " \t");
+	const struct kind *kind = kind_of(word, len);
+
+	if (kind == NULL)
+		return refuse(script, "no line of a script begins with this word");
+	if (script->now.answers.given)
+		begin_exchange(script);
+	if (kind->place == PLACE_BEFORE_ASKS && script->now.asks.given)
+		return refuse(script, "this cannot change between asks and answers");
+	if (kind->take != take_more && kind->take != take_command)
+		script->in_command = false;
+	script->rest = word + len + strspn(word + len, " \t");
+	const char *fault = kind->take(script, script->rest);
+	if (fault != NULL)
+		return refuse(script, fault);
+	script->begun = kind->step != SCRIPT_ANSWERS;
+	if (kind->step == SCRIPT_ANSWERS)
+		script->exchanges++;
+	return kind->step;
+}
+
+/* Reads the line's characters. What is wrong with them, or NULL. */
+static const char *read_line(struct script *script, int first)
+{
+	size_t len = 0;
+
+	for (int c = first; c != EOF && c != '\n'; c = getc(script->stream)) {
+		if (c == '\0')
+			return "a byte 00 stands in the line";
+		if (len + 1 == SCRIPT_LINE)
+			return "the line is longer than 8191 characters";
+		script->text[len++] = (char)c;
+	}
+	/* spaces at the end do not count, nor does a carriage return */
+	while (len > 0 && strchr(" \t\r", script->text[len - 1]) != NULL)
+		len--;
+	script->text[len] = '\0';
+	return NULL;
+}
+
+/* A script that ends inside an exchange would leave it unplayed, unseen. */
+static enum script_step end(struct script *script)
+{
+	if (ferror(script->stream))
+		return refuse(script, "the file cannot be read");
+	if (script->begun)
+		return refuse(script, "the script ends before the answers line of its last exchange");
+	if (script->exchanges == 0)
+		return refuse(script, "the script has no exchange");
+	return SCRIPT_END;
+}
+
+enum script_step script_next(struct script *script)
+{
+	int first = getc(script->stream);
+
+	if (first == EOF)
+		return end(script);
+	script->line++;
+	const char *fault = read_line(script, first);
+	if (fault != NULL)
+		return refuse(script, fault);
+	const char *word = script->text + strspn(script->text, " \t");
+	if (*word == '\0' || *word == '#')
+		return SCRIPT_OTHER;
+	return take_line(script, word);
+}
+
+bool script_open(struct script *script, const char *path, bool may_be_open)
+{
+	memset(script, 0, sizeof *script);
+	script->may_be_open = may_be_open;
+	script->now.settings = qg_usual();
+	script->now.room = SCRIPT_ROOM;
+	script->now.pin_key_parity_good = 1;
+	script->now.pvk_parity_good = 1;
+	script->stream = fopen(path, "rb");
+	return script->stream != NULL;
+}
+
+void script_close(struct script *script)
+{
+	fclose(script->stream);
+	script->stream = NULL;
+}

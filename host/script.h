@@ -1,0 +1,105 @@
+/*
+ * The reader of a class script: exchanges between a host and the box, with
+ * what must come of them. Plain text, one thing a line. A line that begins
+ * with # is a comment; comments and blank lines may stand anywhere.
+ *
+ *   name WORDS            names the exchange that follows
+ *   usual                 the usual settings, those of qg_usual
+ *   header N              settings: the header's length,
+ *   restricted yes|no     restricted formats,
+ *   variable yes|no       variable length offset
+ *   room N                how many bytes of output both calls are lent, 0 to
+ *                         128; without this line 128
+ *   command TEXT          what the host sends
+ *   more TEXT             the command goes on
+ *   block HEX             the key box's PIN block, deciphered
+ *   enciphered HEX        the key box's validation block, enciphered
+ *   parity PIN PVK        good or bad, for either key; at first good good
+ *   asks HEX              expected of the asking call: the block that it
+ *   asks N                writes, or the number of its refusal
+ *   answers TEXT          expected of the answering call: the response, or
+ *   answers nothing N     the number, 901 or 902, beside which it writes none
+ *
+ * How text and hex are written is said in text.h. An exchange has an `asks`
+ * line and ends at its `answers` line. Everything but the name and these two
+ * stays until it is changed, so that a lesson can change one thing at a time.
+ * What the asking call is handed cannot change between `asks` and `answers`.
+ * Both may be given as ? in a script that is to be recorded.
+ */
+#ifndef HOST_SCRIPT_H
+#define HOST_SCRIPT_H
+
+#include <stdbool.h>
+#include <stdio.h>
+
+#include "quillgimlet.h"
+
+#define SCRIPT_LINE 8192
+#define SCRIPT_NAME 128
+#define SCRIPT_ROOM 128
+
+/* More than the 4,096 bytes that have a frame. */
+#define SCRIPT_COMMAND 8192
+
+/* More than the 8 bytes that a block must have. */
+#define SCRIPT_SLICE 16
+
+struct script_slice {
+	uint8_t at[SCRIPT_SLICE];
+	size_t len;
+	bool given;
+};
+
+/* What a call must answer: the number, and the bytes that it writes. */
+struct script_expected {
+	uint32_t number;
+	uint8_t bytes[SCRIPT_ROOM];
+	size_t len;
+	bool given;
+};
+
+struct script_exchange {
+	char name[SCRIPT_NAME];
+	qg_settings settings;
+	size_t room;
+	uint8_t command[SCRIPT_COMMAND];
+	size_t command_len;
+	bool command_given;
+	struct script_slice block;
+	struct script_slice enciphered;
+	uint8_t pin_key_parity_good;
+	uint8_t pvk_parity_good;
+	struct script_expected asks;
+	struct script_expected answers;
+};
+
+enum script_step {
+	SCRIPT_OTHER,    /* a line that is neither of the two below */
+	SCRIPT_ASKS,     /* the asking call can be made */
+	SCRIPT_ANSWERS,  /* the exchange is whole */
+	SCRIPT_END,
+	SCRIPT_FAULT,    /* `fault` says what is wrong with this line */
+};
+
+struct script {
+	FILE *stream;
+	unsigned line;           /* counts from 1 */
+	char text[SCRIPT_LINE];  /* the line, without its end */
+	const char *rest;        /* what stands in it behind its first word */
+	const char *fault;
+	bool may_be_open;  /* ? is taken as an expectation */
+	bool in_command;   /* `more` may follow */
+	bool begun;        /* something stands behind the last `answers` */
+	unsigned exchanges;
+	struct script_exchange now;
+};
+
+/* Opens a script. False: it cannot be opened. */
+bool script_open(struct script *script, const char *path, bool may_be_open);
+
+/* Reads a line. */
+enum script_step script_next(struct script *script);
+
+void script_close(struct script *script);
+
+#endif

@@ -1,0 +1,34 @@
+/*
+ * How bytes stand in a class script, and how they are shown: as text, or in
+ * hex. What is shown can be read again.
+ *
+ *   text   printable characters (20 to 7E hex) stand for themselves, \xHH for
+ *          any other byte, \\ for a backslash. Spaces at either end of a text
+ *          do not count: one that is meant is written \x20.
+ *   hex    two hex digits a byte, with spaces where one likes
+ *
+ * Hex letters are capitals, as everywhere in the paper.
+ */
+#ifndef HOST_TEXT_H
+#define HOST_TEXT_H
+
+#include <stddef.h>
+#include <stdint.h>
+#include <stdio.h>
+
+/* Bytes with their count, in a place that holds `most`. */
+struct text_bytes {
+	uint8_t *at;
+	size_t len;
+	size_t most;
+};
+
+/* Both read words to their end and put the bytes behind those that are there.
+ * They answer what is wrong with the words, or NULL. */
+const char *text_read(const char *words, struct text_bytes *to);
+const char *text_read_hex(const char *words, struct text_bytes *to);
+
+void text_show(FILE *stream, const uint8_t *bytes, size_t len);
+void text_show_hex(FILE *stream, const uint8_t *bytes, size_t len);
+
+#endif
