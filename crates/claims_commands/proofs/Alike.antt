@@ -14,7 +14,6 @@ use Rattle.frame.specs.Frame.{opening}
 use Rattle.fields.specs.Fields.{read, run}
 use Rattle.fields.proofs.Steady.{alike-less, alike-at}
 use Rattle.keys.specs.declared.Use.the-variants.{PinKey, Pvk}
-use Rattle.weak.specs.Weak.{entries, weakPins}
 use Rattle.stages.proofs.Laws.{read-once}
 use Rattle.bk.specs.Bk.{weakMark, bkFields, accountIn, tableIn, validationIn}
 use Rattle.bk.specs.declared.Bk.{Bk}
@@ -99,9 +98,6 @@ module _
 
     pub validation-alike : validationIn s p ≡ validationIn t p
     validation-alike = ap (take (p .offsetting .width)) (from-alike (p .offsetting .validation) (places-behind restricted s at p past e .validation))
-
-    pub weak-alike : weakPins (p .weak) s ≡ weakPins (p .weak) t
-    weak-alike = ap (entries (p .weak .count) (p .weak .length)) (from-alike (p .weak .list) (places-behind restricted s at p past e .list))
 
     pub trailer-alike : drop (p .trailer) s ≡ drop (p .trailer) t
     trailer-alike = from-alike (p .trailer) (places-behind restricted s at p past e .trailer)

@@ -2,7 +2,7 @@
 -- Assumes nothing.
 use Prim.Native.Nat.{ℕ, _+_}
 use native.Mathlib.Omega.{arith}
-use mathlib.Core.Path.{_≡_, refl, sym, ap, _∙_}
+use mathlib.Core.Path.{_≡_, refl, sym, ap, ap₂, _∙_}
 use mathlib.Core.Logic.{_⊎_, inl, inr}
 use mathlib.Core.List.{List}
 use mathlib.Core.Bool.{Bool, true, false, not}
@@ -13,13 +13,12 @@ use Rattle.numbers.specs.declared.Refusal.the-variants.{Weak86}
 use Rattle.numbers.proofs.Laws.{value-of}
 use Rattle.settings.specs.declared.Settings.{Settings}
 use Rattle.ibm3624.specs.Ibm3624.{covers, offsetOf}
-use Rattle.offsets.specs.Offsets.{pinWithNatural}
 use Rattle.weak.specs.Weak.{isOn, weakPins}
-use Rattle.bk.specs.Bk.{bkFinish, accountIn, tableIn}
+use Rattle.bk.specs.Bk.{bkFinish}
 use Rattle.bk.specs.declared.Bk.{Bk}
 use Rattle.claims_commands.specs.Runs.{Reads}
 use Rattle.claims_commands.specs.Claims.{OffsetsTellDifferences}
-use Rattle.claims_commands.proofs.Alike.{read-alike, weak-alike}
+use Rattle.claims_commands.proofs.Alike.{read-alike}
 use Rattle.claims_commands.proofs.Told.{answer-alike}
 
 -- two judgements by a test are alike exactly where both refuse, or neither does and the values are the same: to and fro
@@ -37,31 +36,27 @@ module _ {A : Type 0} (q : Refusal) (x y : A) where
   unless-same a b (inl e) = rw (e .0, e .1)
   unless-same a b (inr e) = rw (e .0, e .1) (ap done (e .2))
 
--- the finish of a run whose PIN is read and whose check length fits, by another name of its fields and of its weak list
+-- the finish of a run whose PIN is read and whose check length fits
 finish-read :
-    {settings : Settings} {g h : Bool} {room : ℕ} {s block enciphered : List ℕ} (r : Reads settings g h room s block enciphered) (p : Bk) (weak : List (List ℕ)) (m : ℕ)
-    → p ≡ r .reaches .fields → weakPins (p .weak) s ≡ weak → covers (settings .variable) (p .offsetting .check) (length (r .pin)) ≡ done m
-    → bkFinish (settings .variable) s p (r .reaches .rows) ≡ unless Weak86 (not (isOn (r .pin) weak)) (offsetOf m (r .pin) (r .natural))
+    {settings : Settings} {g h : Bool} {room : ℕ} {s block enciphered : List ℕ} (r : Reads settings g h room s block enciphered) (m : ℕ)
+    → covers (settings .variable) (r .reaches .fields .offsetting .check) (length (r .pin)) ≡ done m
+    → bkFinish (settings .variable) s (r .reaches .fields) (r .reaches .rows)
+    ≡ unless Weak86 (not (isOn (r .pin) (weakPins (r .reaches .fields .weak) s))) (offsetOf m (r .pin) (r .natural))
 unfolding bkFinish
-finish-read {s = s} r p weak m e w c =
-    let rows = r .reaches .rows in
-    let paired : pinWithNatural (p .sealed .format) (tableIn s p) (rows .0, accountIn s p, rows .1) ≡ done (r .pin, r .natural) = rw e (r .paired) in
-    rw (paired, c, w)
+finish-read r m c = rw (r .paired, c)
 
 pub offsets-tell-differences : OffsetsTellDifferences
-offsets-tell-differences settings g h room m s t block block′ enciphered enciphered′ r r′ alike long c =
-    let at = settings .header + 2 in
+offsets-tell-differences settings g h room room′ m s t block block′ enciphered enciphered′ r r′ alike long c =
     let a = r .reaches in
     let b = r′ .reaches in
-    let p = a .fields in
-    let weak = weakPins (p .weak) s in
-    let same = read-alike (settings .restricted) s t at p (b .fields) (a .past) (b .past) (a .read) (b .read) alike in
-    let listed = weak-alike (settings .restricted) s t at p (a .past) (a .read) alike in
-    let here = finish-read r p weak m refl refl c in
-    let there = finish-read r′ p weak m same (sym listed) (rw (← long) c) in
-    let answers = answer-alike settings g h room s t block block′ enciphered enciphered′ a b alike in
+    let same = read-alike (settings .restricted) s t (settings .header + 2) (a .fields) (b .fields) (a .past) (b .past) (a .read) (b .read) alike in
+    let here = finish-read r m c in
+    let there = finish-read r′ m (ap₂ (λ (p : Bk) (n : ℕ). covers (settings .variable) (p .offsetting .check) n) (sym same) (sym long) ∙ c) in
+    let answers = answer-alike settings g h room room′ s t block block′ enciphered enciphered′ a b alike in
     let offset = offsetOf m (r .pin) (r .natural) in
-    let offset′ = offsetOf m (r′ .pin) (r′ .natural) in (
-      λ e. unless-told Weak86 offset offset′ (isOn (r .pin) weak) (isOn (r′ .pin) weak) (sym here ∙ answers .0 e ∙ there),
-      λ e. answers .1 (here ∙ unless-same Weak86 offset offset′ (isOn (r .pin) weak) (isOn (r′ .pin) weak) e ∙ sym there),
+    let offset′ = offsetOf m (r′ .pin) (r′ .natural) in
+    let weak = isOn (r .pin) (weakPins (a .fields .weak) s) in
+    let weak′ = isOn (r′ .pin) (weakPins (b .fields .weak) t) in (
+      λ e. unless-told Weak86 offset offset′ weak weak′ (sym here ∙ answers .0 e ∙ there),
+      λ e. answers .1 (here ∙ unless-same Weak86 offset offset′ weak weak′ e ∙ sym there),
     )

@@ -16,14 +16,13 @@ use Rattle.numbers.specs.declared.Refusal.the-variants.{Unverified01, WeakList0
 use Rattle.settings.specs.declared.Settings.{Settings}
 use Rattle.ibm3624.specs.Ibm3624.{offsetText}
 use Rattle.frame.specs.Frame.{opening}
-use Rattle.fields.specs.Fields.{read}
 use Rattle.bk.specs.Bk.{bkFinish, bkAnswer, bkPayload}
 use Rattle.bk.specs.declared.Bk.{Bk}
 use Rattle.bk.proofs.Places.{answer-held}
 use Rattle.commands.specs.Commands.{answerBy, answered, responding}
 use Rattle.commands.proofs.Laws.{answered-framed}
 use Rattle.claims_commands.specs.Runs.{Reaches}
-use Rattle.claims_commands.specs.Claims.{AnswerAlike}
+use Rattle.claims_commands.specs.Claims.{AnswerAlike, ResponsesTell}
 use Rattle.claims_commands.proofs.Places.{places-behind}
 use Rattle.claims_commands.proofs.Alike.{read-alike, trailer-alike, opening-alike}
 
@@ -93,31 +92,36 @@ text-once ds es b c e = filled-once ds es (12 - length ds) (12 - length es) b c 
 
 -- ---- responses
 
--- what a response gives of a finish: the offset's text, and what the command has from the trailer's mark on
-abbrev pub payload : ℕ → List ℕ → Outcome (List ℕ) → Outcome (List ℕ)
-payload mark s o = andThen o (λ offset. done (bkPayload s (offset, mark)))
+-- a number tells the refusal, and the bytes behind 00 what the command finished with
+module _ {A : Type 0} (Fine : A → Type 0) (text : A → List ℕ) (once : (a b : A) → Fine a → Fine b → text a ≡ text b → a ≡ b) where
+  -- what stands behind 00
+  abbrev payload : List ℕ → Outcome A → Outcome (List ℕ)
+  payload tail o = andThen o (λ a. done (text a ++ tail))
 
--- an offset, where there is one, has digits
-abbrev pub Digits : Outcome (List ℕ) → Type 0
-Digits o = (ds : List ℕ) → o ≡ done ds → Below 10 ds
+  -- a value that is come to is fine
+  abbrev Finely : Outcome A → Type 0
+  Finely o = (a : A) → o ≡ done a → Fine a
 
--- with equal openings and equal trailers, responses are alike exactly where what they came of is
-module _ (header mark : ℕ) (s t : List ℕ) (opened : (n : ℕ) → opening header s n ≡ opening header t n) (trailed : drop mark s ≡ drop mark t) where
-  -- a number tells the refusal, and the bytes behind 00 the offset's digits
-  pub response-told : (o o′ : Outcome (List ℕ)) → Digits o → Digits o′ → responding header s (payload mark s o) ≡ responding header t (payload mark t o′) → o ≡ o′
-  response-told (done ds) (done es) b c e =
-      let tail = drop mark t in
-      let bytes : opening header t 0 ++ (offsetText ds ++ tail) ≡ opening header t 0 ++ (offsetText es ++ tail) =
-      ap₂ (λ (x y : List ℕ). x ++ (offsetText ds ++ y)) (sym (opened 0)) (sym trailed) ∙ ap (λ (x : Said ℕ). x .written) e in
-      let texts = append-cancel-left (opening header t 0) (offsetText ds ++ tail) (offsetText es ++ tail) bytes in
-      ap done (text-once ds es (b ds refl) (c es refl) (append-cancel-right (offsetText ds) (offsetText es) tail texts))
-  response-told (done ds) (refused q) b c e = absurd (never-00 q (ap (λ (x : Said ℕ). x .number) e))
-  response-told (refused p) (done es) b c e = absurd (never-00 p (sym (ap (λ (x : Said ℕ). x .number) e)))
-  response-told (refused p) (refused q) b c e = ap refused (number-once p q (ap (λ (x : Said ℕ). x .number) e))
+  module _ (header : ℕ) (s t tail : List ℕ) (opened : (n : ℕ) → opening header s n ≡ opening header t n) where
+    response-told : (o o′ : Outcome A) → Finely o → Finely o′ → responding header s (payload tail o) ≡ responding header t (payload tail o′) → o ≡ o′
+    response-told (done a) (done b) f f′ e =
+        let bytes : opening header t 0 ++ (text a ++ tail) ≡ opening header t 0 ++ (text b ++ tail) =
+        ap (λ (x : List ℕ). x ++ (text a ++ tail)) (sym (opened 0)) ∙ ap (λ (x : Said ℕ). x .written) e in
+        let texts = append-cancel-left (opening header t 0) (text a ++ tail) (text b ++ tail) bytes in
+        ap done (once a b (f a refl) (f′ b refl) (append-cancel-right (text a) (text b) tail texts))
+    response-told (done a) (refused q) f f′ e = absurd (never-00 q (ap (λ (x : Said ℕ). x .number) e))
+    response-told (refused p) (done b) f f′ e = absurd (never-00 p (sym (ap (λ (x : Said ℕ). x .number) e)))
+    response-told (refused p) (refused q) f f′ e = ap refused (number-once p q (ap (λ (x : Said ℕ). x .number) e))
 
-  pub response-same : (o : Outcome (List ℕ)) → responding header s (payload mark s o) ≡ responding header t (payload mark t o)
-  response-same (done ds) = ap₂ (λ (x y : List ℕ). record { number = 0; written = x ++ (offsetText ds ++ y) }) (opened 0) trailed
-  response-same (refused q) = ap (λ (x : List ℕ). record { number = numberOf q; written = x }) (opened (numberOf q))
+    response-same : (o : Outcome A) → responding header s (payload tail o) ≡ responding header t (payload tail o)
+    response-same (done a) = ap (λ (x : List ℕ). record { number = 0; written = x ++ (text a ++ tail) }) (opened 0)
+    response-same (refused q) = ap (λ (x : List ℕ). record { number = numberOf q; written = x }) (opened (numberOf q))
+
+pub responses-tell : ResponsesTell
+responses-tell A Fine text once header s t tail opened o o′ f f′ = (
+  response-told Fine text once header s t tail opened o o′ f f′,
+  λ e. ap (λ (x : Outcome A). responding header s (andThen x (λ a. done (text a ++ tail)))) e ∙ response-same Fine text once header s t tail opened o′,
+)
 
 -- ---- a run that is not refused before its block is looked at
 
@@ -128,52 +132,38 @@ module _ {settings : Settings} {g h : Bool} {room : ℕ} {s block enciphered : L
 
   -- what the command answers and what stands behind 00, as one step
   behind : (o : Outcome (List ℕ)) (mark : ℕ)
-      → andThen (andThen o (λ offset. done (offset, mark))) (λ answer. done (bkPayload s answer)) ≡ payload mark s o
+      → andThen (andThen o (λ offset. done (offset, mark))) (λ answer. done (bkPayload s answer)) ≡ andThen o (λ offset. done (offsetText offset ++ drop mark s))
   behind (done ds) mark = refl
   behind (refused q) mark = refl
 
-  -- what it answers is the response to its finish
-  pub reached : answered settings g h s block enciphered room ≡ responding (settings .header) s (payload (r .fields .trailer) s finish)
+  -- what it answers is the response to its finish, with its trailer by another name
+  pub reached : (tail : List ℕ) → drop (r .fields .trailer) s ≡ tail
+      → answered settings g h s block enciphered room ≡ responding (settings .header) s (andThen finish (λ offset. done (offsetText offset ++ tail)))
   unfolding answerBy bkAnswer
-  reached =
+  reached tail e =
       answered-framed settings g h s block enciphered room (r .roomy) (r .framed)
       ∙ rw (r .coded, r .read, r .boxed) (ap (responding (settings .header) s) (behind finish (r .fields .trailer)))
+      ∙ ap (λ (x : List ℕ). responding (settings .header) s (andThen finish (λ offset. done (offsetText offset ++ x)))) e
 
   -- an offset that it comes to has digits
-  pub finish-digits : Digits finish
+  pub finish-digits : (ds : List ℕ) → finish ≡ done ds → Below 10 ds
   unfolding bkAnswer
   finish-digits ds e =
       answer-held settings g h s (settings .header + 2) block enciphered (ds, r .fields .trailer) (rw (r .read, r .boxed, e)) .digits
 
 -- ---- two runs
 
--- a run by another name of its fields
-abbrev pub renamed : {settings : Settings} {g h : Bool} {room : ℕ} {s block enciphered : List ℕ} (r : Reaches settings g h room s block enciphered) (p : Bk) → p ≡ r .fields
-    → Reaches settings g h room s block enciphered
-renamed r p e = record {
-  roomy = r .roomy;
-  framed = r .framed;
-  coded = r .coded;
-  fields = p;
-  past = r .past;
-  read = r .read ∙ ap (λ (q : Bk). read q (r .past)) (sym e);
-  rows = r .rows;
-  boxed = r .boxed;
-}
-
 -- their responses tell what their finishes came to
 pub answer-alike : AnswerAlike
-answer-alike settings g h room s t block block′ enciphered enciphered′ r r′ alike =
+answer-alike settings g h room room′ s t block block′ enciphered enciphered′ r r′ alike =
     let header = settings .header in
     let p = r .fields in
     let same = read-alike (settings .restricted) s t (header + 2) p (r′ .fields) (r .past) (r′ .past) (r .read) (r′ .read) alike in
-    let q = renamed r′ p same in
     let before = places-behind (settings .restricted) s (header + 2) p (r .past) (r .read) .block in
     let opened : (n : ℕ) → opening header s n ≡ opening header t n = λ n. opening-alike header n (p .sealed .block) s t before alike in
     let trailed = trailer-alike (settings .restricted) s t (header + 2) p (r .past) (r .read) alike in
-    let here = reached r in
-    let there = reached q in (
-      λ e. response-told header (p .trailer) s t opened trailed (finish r) (finish q) (finish-digits r) (finish-digits q) (sym here ∙ e ∙ there),
-      λ e. here ∙ ap (λ (x : Outcome (List ℕ)). responding header s (payload (p .trailer) s x)) e
-          ∙ response-same header (p .trailer) s t opened trailed (finish q) ∙ sym there,
-    )
+    let tail = drop (p .trailer) s in
+    let here = reached r tail refl in
+    let there = reached r′ tail (ap (λ (q : Bk). drop (q .trailer) t) (sym same) ∙ sym trailed) in
+    let tell = responses-tell (List ℕ) (Below 10) offsetText text-once header s t tail opened (finish r) (finish r′) (finish-digits r) (finish-digits r′) in
+    (λ e. tell .0 (sym here ∙ e ∙ there), λ e. here ∙ tell .1 e ∙ sym there)

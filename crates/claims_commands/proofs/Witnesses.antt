@@ -5,13 +5,14 @@ use native.Mathlib.Nat.{le-refl}
 use native.Mathlib.Omega.{arith}
 use mathlib.Core.Path.{_≡_, refl, ap}
 use mathlib.Core.List.{List, [], _∷_}
-use mathlib.Core.Bool.{true, false}
+use mathlib.Core.Bool.{true}
 use lib.ListN.{length, getD, take, drop}
 use Rattle.nibbles.specs.Nibbles.{nibs, xors, every, leading, same}
 use Rattle.alphabet.specs.Alphabet.{allOf, begins, valueOf}
 use Rattle.numbers.specs.Numbers.{done}
 use Rattle.numbers.specs.Promise.{Said}
 use Rattle.settings.specs.Settings.{usually}
+use Rattle.settings.specs.declared.Settings.{Settings}
 use Rattle.formats.specs.Formats as formats
 use Rattle.formats.specs.declared.Format.the-variants.{F01}
 use Rattle.blocks.specs.Blocks.{contents, readRow}
@@ -28,7 +29,7 @@ use Rattle.bk.specs.Bk.{bkFields, accountIn, tableIn, bkFinish, bkAnswer}
 use Rattle.bk.specs.declared.Bk.{Bk}
 use Rattle.commands.specs.Commands.{roomToAnswer, answerBy, answered}
 use Rattle.claims_commands.specs.Runs.{Reads}
-use Rattle.claims_commands.specs.Witnesses.{command, Run, runP9, runP10, runOther, bothListed, oneListed, Meets, AssumptionsMet}
+use Rattle.claims_commands.specs.Witnesses.{command, Run, runP9, runP10, runOther, runLastFour, bothListed, oneListed, variable, Meets, AssumptionsMet}
 
 -- the fields of the command, by the place of its trailer's mark and its weak list
 abbrev fields : ℕ → Weak → Bk
@@ -59,7 +60,10 @@ pinP10 = (4 ∷ 5 ∷ 6 ∷ 7 ∷ 8 ∷ [], 0 ∷ 6 ∷ 4 ∷ 3 ∷ 1 ∷ [])
 abbrev pinOther : List ℕ × List ℕ
 pinOther = (3 ∷ 4 ∷ 5 ∷ 6 ∷ 8 ∷ [], 9 ∷ 5 ∷ 3 ∷ 2 ∷ 0 ∷ [])
 
-module _ (weak : List ℕ) (p : Bk) where
+abbrev pinLastFour : List ℕ × List ℕ
+pinLastFour = (4 ∷ 5 ∷ 6 ∷ 7 ∷ 8 ∷ [], 1 ∷ 6 ∷ 4 ∷ 3 ∷ 1 ∷ [])
+
+module _ (settings : Settings) (m : ℕ) (weak : List ℕ) (p : Bk) where
   -- the command, and the rows of the blocks
   abbrev sent : Run → List ℕ
   sent a = command (a .sealed) weak
@@ -70,13 +74,13 @@ module _ (weak : List ℕ) (p : Bk) where
   -- what is to be computed of a run: its frame, its code, its fields, its rows, its PIN and natural PIN
   abbrev Computed : Run → List ℕ × List ℕ → Type 0
   Computed a pair =
-      (isFramed 4 (sent a) ≡ true)
-      × (codeOf (drop 4 (sent a)) ≡ code.Bk)
-      × (bkFields false (sent a) 6 ≡ read p (p .trailer))
+      (isFramed (settings .header) (sent a) ≡ true)
+      × (codeOf (drop (settings .header) (sent a)) ≡ code.Bk)
+      × (bkFields (settings .restricted) (sent a) (settings .header + 2) ≡ read p (p .trailer))
       × (boxed true true (a .block) (a .enciphered) ≡ done (rows a))
       × (pinWithNatural (p .sealed .format) (tableIn (sent a) p) (rows a .0, accountIn (sent a) p, rows a .1) ≡ done pair)
 
-  reading : (a : Run) (pair : List ℕ × List ℕ) → Computed a pair → Reads usually true true roomToAnswer (sent a) (a .block) (a .enciphered)
+  reading : (a : Run) (pair : List ℕ × List ℕ) → Computed a pair → Reads settings true true roomToAnswer (sent a) (a .block) (a .enciphered)
   reading a pair c = record {
     reaches = record { roomy = le-refl roomToAnswer; framed = c .0; coded = c .1; fields = p; past = p .trailer; read = c .2; rows = rows a; boxed = c .3 };
     pin = pair .0;
@@ -84,16 +88,16 @@ module _ (weak : List ℕ) (p : Bk) where
     paired = c .4;
   }
 
-  -- and of two: they are alike but for the block, their PINs have one length, and four digits are covered
+  -- and of two: they are alike but for the block, their PINs have one length, and m digits are covered
   abbrev Compared : Run → Run → List ℕ → List ℕ → Type 0
   Compared a b pin pin′ =
       (length (sent a) ≡ length (sent b))
       × (take (p .sealed .block) (sent a) ≡ take (p .sealed .block) (sent b))
       × (drop (p .sealed .block + 16) (sent a) ≡ drop (p .sealed .block + 16) (sent b))
       × (length pin ≡ length pin′)
-      × (covers false (p .offsetting .check) (length pin) ≡ done 4)
+      × (covers (settings .variable) (p .offsetting .check) (length pin) ≡ done m)
 
-  meets : (a b : Run) (pair pair′ : List ℕ × List ℕ) → Computed a pair → Computed b pair′ → Compared a b (pair .0) (pair′ .0) → (pair .0 ≡ pair′ .0 → ⊥) → Meets weak a b
+  meets : (a b : Run) (pair pair′ : List ℕ × List ℕ) → Computed a pair → Computed b pair′ → Compared a b (pair .0) (pair′ .0) → (pair .0 ≡ pair′ .0 → ⊥) → Meets settings m weak a b
   unfolding reading
   meets a b pair pair′ c c′ d apart = record {
     first = reading a pair c;
@@ -109,22 +113,40 @@ differ : (pin pin′ : List ℕ) → getD pin 4 0 ≡ 7 → getD pin′ 4 0 ≡ 
 differ pin pin′ h k e = omega (arith, ap (λ (ds : List ℕ). getD ds 4 0) e)
 
 pub assumptions-met : AssumptionsMet
-unfolding nibs xors every leading same allOf begins valueOf formats.codeOf contents readRow differences pinWithNatural isFramed opening run number trailer keyType hexKey lettered key lmkField listed weakField entries isOn keys formatField sealed validationField offsetting weak end boxed bkFields bkFinish bkAnswer answerBy answered
+unfolding nibs xors every leading same allOf begins valueOf formats.codeOf contents readRow differences pinWithNatural isFramed opening run number trailer keyType hexKey lettered key lmkField listed weakField entries isOn keys formatField sealed validationField offsetting weak end boxed bkFields bkFinish bkAnswer answerBy answered reading meets
 assumptions-met = (
   (
-    meets [] none runP9 runP10 pinP9 pinP10 (refl, refl, refl, refl, refl) (refl, refl, refl, refl, refl) (refl, refl, refl, refl, refl) (differ (pinP9 .0) (pinP10 .0) refl refl),
+    meets usually 4 [] none runP9 runP10 pinP9 pinP10 (refl, refl, refl, refl, refl) (refl, refl, refl, refl, refl) (refl, refl, refl, refl, refl) (differ (pinP9 .0) (pinP10 .0) refl refl),
     refl,
   ),
   (
-    meets [] none runP9 runOther pinP9 pinOther (refl, refl, refl, refl, refl) (refl, refl, refl, refl, refl) (refl, refl, refl, refl, refl) (differ (pinP9 .0) (pinOther .0) refl refl),
+    meets usually 4 [] none runP9 runOther pinP9 pinOther (refl, refl, refl, refl, refl) (refl, refl, refl, refl, refl) (refl, refl, refl, refl, refl) (differ (pinP9 .0) (pinOther .0) refl refl),
     λ e. omega (arith, ap (λ (x : Said ℕ). getD (x .written) 11 0) e),
   ),
+  record {
+    met = meets usually 4 [] none runP9 runLastFour pinP9 pinLastFour (refl, refl, refl, refl, refl) (refl, refl, refl, refl, refl) (refl, refl, refl, refl, refl)
+        (differ (pinP9 .0) (pinLastFour .0) refl refl);
+    five = λ e. omega (arith, ap (λ (ds : List ℕ). getD ds 0 0) e);
+    four = refl;
+    agree = refl;
+  },
   (
-    meets bothListed both runP9 runP10 pinP9 pinP10 (refl, refl, refl, refl, refl) (refl, refl, refl, refl, refl) (refl, refl, refl, refl, refl) (differ (pinP9 .0) (pinP10 .0) refl refl),
+    (
+      meets variable 5 [] none runP9 runP10 pinP9 pinP10 (refl, refl, refl, refl, refl) (refl, refl, refl, refl, refl) (refl, refl, refl, refl, refl) (differ (pinP9 .0) (pinP10 .0) refl refl),
+      refl,
+    ),
+    (
+      meets variable 5 [] none runP9 runLastFour pinP9 pinLastFour (refl, refl, refl, refl, refl) (refl, refl, refl, refl, refl) (refl, refl, refl, refl, refl)
+          (differ (pinP9 .0) (pinLastFour .0) refl refl),
+      λ e. omega (arith, ap (λ (x : Said ℕ). getD (x .written) 8 0) e),
+    ),
+  ),
+  (
+    meets usually 4 bothListed both runP9 runP10 pinP9 pinP10 (refl, refl, refl, refl, refl) (refl, refl, refl, refl, refl) (refl, refl, refl, refl, refl) (differ (pinP9 .0) (pinP10 .0) refl refl),
     refl,
   ),
   (
-    meets oneListed one runP9 runP10 pinP9 pinP10 (refl, refl, refl, refl, refl) (refl, refl, refl, refl, refl) (refl, refl, refl, refl, refl) (differ (pinP9 .0) (pinP10 .0) refl refl),
+    meets usually 4 oneListed one runP9 runP10 pinP9 pinP10 (refl, refl, refl, refl, refl) (refl, refl, refl, refl, refl) (refl, refl, refl, refl, refl) (differ (pinP9 .0) (pinP10 .0) refl refl),
     λ e. omega (arith, ap (λ (x : Said ℕ). x .number) e),
   ),
 )

@@ -2,48 +2,60 @@
 use Prim.Native.Nat.{ℕ}
 use mathlib.Core.Path.{_≡_}
 use mathlib.Core.Logic.{_↔_, _⊎_}
-use mathlib.Core.List.{List}
+use mathlib.Core.List.{List, _++_}
 use mathlib.Core.Bool.{Bool, true, false}
 use lib.ListN.{length}
-use Rattle.numbers.specs.Numbers.{done}
+use Rattle.numbers.specs.Numbers.{Outcome, done, andThen}
 use Rattle.settings.specs.declared.Settings.{Settings}
 use Rattle.ibm3624.specs.Ibm3624.{covers, offsetOf}
+use Rattle.frame.specs.Frame.{opening}
 use Rattle.fields.specs.Fields.{read}
 use Rattle.weak.specs.Weak.{isOn, weakPins}
 use Rattle.bk.specs.Bk.{bkFields, bkFinish}
 use Rattle.bk.specs.declared.Bk.{Bk}
-use Rattle.commands.specs.Commands.{answered}
+use Rattle.commands.specs.Commands.{answered, responding}
 use Rattle.claims_commands.specs.Runs.{AlikeBut, Reaches, Reads}
 
--- commands alike outside the block's characters are read alike
+-- commands that are both read, and are alike outside the block's characters, are read alike
 abbrev pub ReadAlike : Type 0
 ReadAlike = (restricted : Bool) (s t : List ℕ) (at : ℕ) (p q : Bk) (past past′ : ℕ)
     → bkFields restricted s at ≡ read p past → bkFields restricted t at ≡ read q past′ → AlikeBut (p .sealed .block) s t
     → p ≡ q
 
--- and answer alike exactly when their finish does: what every later command will need
+-- what every later command needs: responses agree exactly when what the command finished with does. For any type of it, any text that
+-- tells the fine ones apart, any two commands with equal openings, and any bytes behind the text
+abbrev pub ResponsesTell : Type 1
+ResponsesTell = (A : Type 0) (Fine : A → Type 0) (text : A → List ℕ)
+    → ((a b : A) → Fine a → Fine b → text a ≡ text b → a ≡ b)
+    → (header : ℕ) (s t tail : List ℕ)
+    → ((number : ℕ) → opening header s number ≡ opening header t number)
+    → (o o′ : Outcome A) → ((a : A) → o ≡ done a → Fine a) → ((a : A) → o′ ≡ done a → Fine a)
+    → (responding header s (andThen o (λ a. done (text a ++ tail))) ≡ responding header t (andThen o′ (λ a. done (text a ++ tail))))
+    ↔ (o ≡ o′)
+
+-- BK's commands, alike outside the block's characters, answer alike exactly when their finish does
 abbrev pub AnswerAlike : Type 0
-AnswerAlike = (settings : Settings) (g h : Bool) (room : ℕ) (s t block block′ enciphered enciphered′ : List ℕ)
-    (r : Reaches settings g h room s block enciphered) (r′ : Reaches settings g h room t block′ enciphered′)
+AnswerAlike = (settings : Settings) (g h : Bool) (room room′ : ℕ) (s t block block′ enciphered enciphered′ : List ℕ)
+    (r : Reaches settings g h room s block enciphered) (r′ : Reaches settings g h room′ t block′ enciphered′)
     → AlikeBut (r .fields .sealed .block) s t
-    → (answered settings g h s block enciphered room ≡ answered settings g h t block′ enciphered′ room)
-    ↔ (bkFinish (settings .variable) s (r .fields) (r .rows) ≡ bkFinish (settings .variable) t (r .fields) (r′ .rows))
+    → (answered settings g h s block enciphered room ≡ answered settings g h t block′ enciphered′ room′)
+    ↔ (bkFinish (settings .variable) s (r .fields) (r .rows) ≡ bkFinish (settings .variable) t (r′ .fields) (r′ .rows))
 
 -- "both PINs are weak, or neither is and the differences agree over the covered digits": PIN digit less natural digit, modulo ten, over
--- the last m digits
-abbrev pub SameTold : ℕ → List (List ℕ) → List ℕ × List ℕ → List ℕ × List ℕ → Type 0
-SameTold m weak p q =
-    ((isOn (p .0) weak ≡ true) × (isOn (q .0) weak ≡ true))
-    ⊎ ((isOn (p .0) weak ≡ false) × (isOn (q .0) weak ≡ false) × (offsetOf m (p .0) (p .1) ≡ offsetOf m (q .0) (q .1)))
+-- the last m digits. Each PIN is looked for on its own command's list
+abbrev pub SameTold : ℕ → List (List ℕ) → List (List ℕ) → List ℕ × List ℕ → List ℕ × List ℕ → Type 0
+SameTold m weak weak′ p q =
+    ((isOn (p .0) weak ≡ true) × (isOn (q .0) weak′ ≡ true))
+    ⊎ ((isOn (p .0) weak ≡ false) × (isOn (q .0) weak′ ≡ false) × (offsetOf m (p .0) (p .1) ≡ offsetOf m (q .0) (q .1)))
 
 -- "two runs answer alike exactly when both PINs are weak, or neither is and the differences agree over the covered digits": number,
--- count and bytes of the two responses, for any deciphered PIN blocks and any enciphered validation blocks, where the PINs have equal
--- length and the check length fits, or the offset has variable length
+-- count and bytes of the two responses, for any rooms that suffice, any deciphered PIN blocks and any enciphered validation blocks,
+-- where the PINs have equal length and the check length fits, or the offset has variable length
 abbrev pub OffsetsTellDifferences : Type 0
-OffsetsTellDifferences = (settings : Settings) (g h : Bool) (room m : ℕ) (s t block block′ enciphered enciphered′ : List ℕ)
-    (r : Reads settings g h room s block enciphered) (r′ : Reads settings g h room t block′ enciphered′)
+OffsetsTellDifferences = (settings : Settings) (g h : Bool) (room room′ m : ℕ) (s t block block′ enciphered enciphered′ : List ℕ)
+    (r : Reads settings g h room s block enciphered) (r′ : Reads settings g h room′ t block′ enciphered′)
     → AlikeBut (r .reaches .fields .sealed .block) s t
     → length (r .pin) ≡ length (r′ .pin)
     → covers (settings .variable) (r .reaches .fields .offsetting .check) (length (r .pin)) ≡ done m
-    → (answered settings g h s block enciphered room ≡ answered settings g h t block′ enciphered′ room)
-    ↔ SameTold m (weakPins (r .reaches .fields .weak) s) (r .pin, r .natural) (r′ .pin, r′ .natural)
+    → (answered settings g h s block enciphered room ≡ answered settings g h t block′ enciphered′ room′)
+    ↔ SameTold m (weakPins (r .reaches .fields .weak) s) (weakPins (r′ .reaches .fields .weak) t) (r .pin, r .natural) (r′ .pin, r′ .natural)

@@ -1,5 +1,5 @@
 -- That the assumptions of demand 3 can be met, on each side of its "exactly when": runs of the command of "Run, not proved", with usual
--- settings and good parity. The characters of the enciphered PIN block are the second run's own.
+-- settings, or with offsets of variable length, and good parity. The characters of the enciphered PIN block are the second run's own.
 use Prim.Native.Nat.{ℕ}
 use mathlib.Core.Path.{_≡_}
 use mathlib.Core.List.{List, [], _∷_, _++_}
@@ -7,8 +7,9 @@ use mathlib.Core.Bool.{true}
 use lib.ListN.{length, replicate}
 use Rattle.numbers.specs.Numbers.{done}
 use Rattle.numbers.specs.Promise.{Said}
-use Rattle.settings.specs.Settings.{usually}
-use Rattle.ibm3624.specs.Ibm3624.{covers}
+use Rattle.settings.specs.Settings.{usually, variably}
+use Rattle.settings.specs.declared.Settings.{Settings}
+use Rattle.ibm3624.specs.Ibm3624.{covers, offsetOf}
 use Rattle.commands.specs.Commands.{roomToAnswer, answered}
 use Rattle.claims_blocks.specs.Figures.{usualAccount}
 use Rattle.claims_offsets.specs.Figures.{blockP2, tableP9, encipheredP9, validationP12}
@@ -60,6 +61,14 @@ runOther = record {
   enciphered = encipheredP9;
 }
 
+-- PIN 45678 against natural 16431: of the five differences of runP9, all but the first
+abbrev pub runLastFour : Run
+runLastFour = record {
+  sealed = runP10 .sealed;
+  block = runP10 .block;
+  enciphered = 0x16 ∷ 0x4D ∷ 0xB0 ∷ 0x00 ∷ 0x00 ∷ 0x00 ∷ 0x00 ∷ 0x00 ∷ [];
+}
+
 -- `;02053456745678`: both PINs
 abbrev pub bothListed : List ℕ
 bothListed = 0x3B ∷ 0x30 ∷ 0x32 ∷ 0x30 ∷ 0x35 ∷ 0x33 ∷ 0x34 ∷ 0x35 ∷ 0x36 ∷ 0x37 ∷ 0x34 ∷ 0x35 ∷ 0x36 ∷ 0x37 ∷ 0x38 ∷ []
@@ -70,39 +79,54 @@ oneListed = 0x3B ∷ 0x30 ∷ 0x31 ∷ 0x30 ∷ 0x35 ∷ 0x33 ∷ 0x34 ∷ 0x35 
 
 -- ---- what is claimed
 
--- what a run answers
-abbrev pub answer : List ℕ → Run → Said ℕ
-answer weak a = answered usually true true (command (a .sealed) weak) (a .block) (a .enciphered) roomToAnswer
+-- offsets of variable length, else the usual settings
+abbrev pub variable : Settings
+variable = variably usually true
 
--- two runs that meet the assumptions of demand 3, over four covered digits, and whose PINs are not the same
-pub record Meets (weak : List ℕ) (a b : Run) : Type 0 where
-  pub first : Reads usually true true roomToAnswer (command (a .sealed) weak) (a .block) (a .enciphered)
-  pub second : Reads usually true true roomToAnswer (command (b .sealed) weak) (b .block) (b .enciphered)
+-- what a run answers
+abbrev pub answer : Settings → List ℕ → Run → Said ℕ
+answer settings weak a = answered settings true true (command (a .sealed) weak) (a .block) (a .enciphered) roomToAnswer
+
+-- two runs that meet the assumptions of demand 3, over m covered digits, and whose PINs are not the same
+pub record Meets (settings : Settings) (m : ℕ) (weak : List ℕ) (a b : Run) : Type 0 where
+  pub first : Reads settings true true roomToAnswer (command (a .sealed) weak) (a .block) (a .enciphered)
+  pub second : Reads settings true true roomToAnswer (command (b .sealed) weak) (b .block) (b .enciphered)
   pub alike : AlikeBut (first .reaches .fields .sealed .block) (command (a .sealed) weak) (command (b .sealed) weak)
   pub long : length (first .pin) ≡ length (second .pin)
-  pub covered : covers (usually .variable) (first .reaches .fields .offsetting .check) (length (first .pin)) ≡ done 4
+  pub covered : covers (settings .variable) (first .reaches .fields .offsetting .check) (length (first .pin)) ≡ done m
   pub apart : first .pin ≡ second .pin → ⊥
 
-abbrev pub Agree : List ℕ → Run → Run → Type 0
-Agree weak a b = Meets weak a b × (answer weak a ≡ answer weak b)
+abbrev pub Agree : Settings → ℕ → List ℕ → Run → Run → Type 0
+Agree settings m weak a b = Meets settings m weak a b × (answer settings weak a ≡ answer settings weak b)
 
-abbrev pub Differ : List ℕ → Run → Run → Type 0
-Differ weak a b = Meets weak a b × (answer weak a ≡ answer weak b → ⊥)
+abbrev pub Differ : Settings → ℕ → List ℕ → Run → Run → Type 0
+Differ settings m weak a b = Meets settings m weak a b × (answer settings weak a ≡ answer settings weak b → ⊥)
 
 -- neither PIN is weak, and the differences agree; or they do not
 abbrev pub AlikeRuns : Type 0
-AlikeRuns = Agree [] runP9 runP10
+AlikeRuns = Agree usually 4 [] runP9 runP10
 
 abbrev pub UnlikeRuns : Type 0
-UnlikeRuns = Differ [] runP9 runOther
+UnlikeRuns = Differ usually 4 [] runP9 runOther
+
+-- the differences do not agree over all five digits, but over the four that are covered: the runs answer alike
+pub record UncoveredRuns : Type 0 where
+  pub met : Meets usually 4 [] runP9 runLastFour
+  pub five : offsetOf 5 (met .first .pin) (met .first .natural) ≡ offsetOf 5 (met .second .pin) (met .second .natural) → ⊥
+  pub four : offsetOf 4 (met .first .pin) (met .first .natural) ≡ offsetOf 4 (met .second .pin) (met .second .natural)
+  pub agree : answer usually [] runP9 ≡ answer usually [] runLastFour
+
+-- with variable length all five are covered: the runs of equal differences answer alike, and those that differ in the first do not
+abbrev pub VariableRuns : Type 0
+VariableRuns = Agree variable 5 [] runP9 runP10 × Differ variable 5 [] runP9 runLastFour
 
 -- both PINs are weak; or one is
 abbrev pub BothWeak : Type 0
-BothWeak = Agree bothListed runP9 runP10
+BothWeak = Agree usually 4 bothListed runP9 runP10
 
 abbrev pub OneWeak : Type 0
-OneWeak = Differ oneListed runP9 runP10
+OneWeak = Differ usually 4 oneListed runP9 runP10
 
--- all four
+-- all of them
 abbrev pub AssumptionsMet : Type 0
-AssumptionsMet = AlikeRuns × UnlikeRuns × BothWeak × OneWeak
+AssumptionsMet = AlikeRuns × UnlikeRuns × UncoveredRuns × VariableRuns × BothWeak × OneWeak
