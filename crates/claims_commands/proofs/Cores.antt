@@ -1,35 +1,48 @@
 -- The cores that the promises of the two calls reject: what the calls say there is computed.
 -- Assumes nothing.
-use Prim.Native.Nat.{ℕ, _≤_, _<_}
+use Prim.Native.Nat.{ℕ, _+_, _≤_, _<_}
 use native.Mathlib.Omega.{arith}
-use mathlib.Core.Path.{_≡_, refl, sym, ap, _∙_}
+use mathlib.Core.Path.{_≡_, refl, sym, ap, _∙_, subst}
 use mathlib.Core.List.{List, [], _∷_, _++_}
 use mathlib.Core.Bool.{Bool, true}
-use lib.ListN.{length, getD, drop, replicate, length-replicate, getD-replicate, List·getD-append}
-use lib.Dec.{lit<}
+use lib.ListN.{length, getD, take, drop, replicate, length-replicate, getD-replicate, List·getD-append}
+use lib.Dec.{leb, lit<}
 use borrow.Author.Tests.{le-leb}
 use Rattle.nibbles.specs.Nibbles.{nibs, packs, xors, every, leading, same}
 use Rattle.alphabet.specs.Alphabet.{allOf, begins, valueOf}
+use Rattle.alphabet.specs.declared.Class.the-variants.{Digit}
+use Rattle.numbers.specs.Numbers.{Outcome, done, refused, andThen, unless, numberOf}
 use Rattle.numbers.specs.Promise.{Said, Does, quietly}
+use Rattle.numbers.specs.declared.Refusal.{Refusal}
+use Rattle.numbers.specs.declared.Refusal.the-variants.{Field15, Table25}
+use Rattle.numbers.proofs.Laws.{then-done, passed}
 use Rattle.numbers.specs.declared.Reply.{Reply}
 use Rattle.settings.specs.Settings.{usually}
 use Rattle.settings.specs.declared.Settings.{Settings}
 use Rattle.formats.specs.Formats.{codeOf}
 use Rattle.blocks.specs.Blocks.{contents, readRow}
-use Rattle.validation.specs.Validation.{validationRow}
+use Rattle.validation.specs.Validation.{isValidation, validationRow}
+use Rattle.validation.proofs.Laws.{row-of-valid}
 use Rattle.ibm3624.specs.Ibm3624.{differences}
 use Rattle.offsets.specs.Offsets.{pinWithNatural}
-use Rattle.frame.specs.Frame.{isFramed, opening}
-use Rattle.fields.specs.Fields.{run, number, trailer}
+use Rattle.frame.specs.Frame as frame
+use Rattle.frame.specs.Frame.{isFramed, framed, opening}
+use Rattle.frame.specs.declared.Code.{Code}
+use Rattle.frame.specs.declared.Code.the-variants.{Bk, Other}
+use Rattle.fields.specs.Fields.{Stage, read, faulty, outcome, run, number, trailer}
 use Rattle.keys.specs.Keys.{keyType, hexKey, lettered, key, lmkField}
 use Rattle.weak.specs.Weak.{weakField, entries, isOn}
-use Rattle.stages.specs.Stages.{keys, formatField, sealed, validationField, offsetting, weak, end, boxed}
-use Rattle.bk.specs.Bk.{bkFields, bkAsk, bkFinish, bkAnswer}
-use Rattle.commands.specs.Commands.{askBy, answerBy, asked, answered}
+use Rattle.stages.specs.Stages.{keys, formatField, sealed, validationWidth, validationField, offsetting, weak, end, boxed}
+use Rattle.stages.specs.declared.Offsetting.{Offsetting}
+use Rattle.stages.proofs.Laws.{field-read, read-once}
+use Rattle.bk.specs.Bk.{bkFields, accountIn, validationIn, bkAsk, bkFinish, bkAnswer}
+use Rattle.bk.specs.declared.Bk as bk
+use Rattle.commands.specs.Commands.{askBy, answerBy, commanded, responding, silently, asked, answered}
 use Rattle.claims_blocks.specs.Figures.{usualAccount}
 use Rattle.claims_blocks.specs.Promises.{Only00, Apart}
 use Rattle.claims_offsets.specs.Figures.{blockP2, encipheredP9}
-use Rattle.claims_commands.specs.Cores.{commandOf, otherAccount, encipheredZeros, asks, answers, CommandsNotRefusing, CommandsNotFixed, CommandsNotSilent}
+use Rattle.claims_commands.specs.Cores.{commandOf, otherAccount, encipheredZeros, asks, answers, CommandsNotRefusing, CommandsNotFixed, CommandsNotSilent, PapersExchange, AnswerReadsTheFields}
+use Rattle.claims_commands.proofs.Places.{staged}
 
 -- ---- what an answer must be where a call says this
 
@@ -102,3 +115,71 @@ commands-not-silent = (
   λ room r h. let l = length-replicate {A = ℕ} room 0 in not-zeros _ _ (asks-said (replicate room 0) (omega arith) .0) 0 (lit< tt) (omega arith) room r (omega arith),
   λ room r h. let l = length-replicate {A = ℕ} room 0 in not-zeros _ _ (answers-said (replicate room 0) (omega arith) .0) 0 (lit< tt) (omega arith) room r (omega arith),
 )
+
+-- ---- the exchange
+
+pub papers-exchange : PapersExchange
+papers-exchange = (λ before h. asks-said before h .0, λ before h. answers-said before h .0)
+
+-- ---- the reading of the fields
+
+-- validation data that were found are validation data
+valid-found : (cs : List ℕ) (width n : ℕ) → validationField cs ≡ done (width, n) → isValidation (take width cs) ≡ true
+unfolding validationField
+valid-found cs width n e =
+    let fits = then-done (unless Field15 (leb (validationWidth cs) (length cs)) (validationWidth cs)) _ (width, n) e in
+    let whole = passed Field15 (isValidation (take (fits .0) cs)) (fits .0, fits .0) (width, n) (fits .2) in
+    subst (λ (w : ℕ). isValidation (take w cs) ≡ true) (ap (λ (r : ℕ × ℕ). r .0) (whole .1)) (whole .0)
+
+-- so field 9 of a command that was read has them
+valid-held : (first : ℕ) (s : List ℕ) (at : ℕ) (o : Offsetting) (next : ℕ) → offsetting first s at ≡ read o next → isValidation (take (o .width) (drop (o .validation) s)) ≡ true
+unfolding offsetting
+valid-held first s at o next e =
+    let f₁ = field-read first (number 4 12 Field15) s at _ o next e in
+    let f₂ = field-read (first + 1) (run Digit Field15 Field15 12) s (at + f₁ .1) _ o next (f₁ .3) in
+    let f₃ = field-read (first + 2) (run Digit Field15 Table25 16) s (at + f₁ .1 + f₂ .1) _ o next (f₂ .3) in
+    let f₄ = field-read (first + 3) validationField s (at + f₁ .1 + f₂ .1 + f₃ .1) _ o next (f₃ .3) in
+    subst (λ (x : Offsetting). isValidation (take (x .width) (drop (x .validation) s)) ≡ true) (read-once (f₄ .3) .0)
+    (valid-found (drop (at + f₁ .1 + f₂ .1 + f₃ .1) s) (f₄ .0) (f₄ .1) (f₄ .2))
+
+refusal-of : {A : Type 0} {p q : Refusal} → _≡_ {A = Outcome A} (refused p) (refused q) → p ≡ q
+refusal-of e = cc
+
+not-refused : {A : Type 0} {a : A} {q : Refusal} → done a ≡ refused q → ⊥
+not-refused e = let z : _≡_ {A = ℕ} 0 1 = cc in omega arith
+
+-- the asking call refuses nothing behind the fields
+fields-refuse : (settings : Settings) (s : List ℕ) (at : ℕ) (q : Refusal) → bkAsk settings s at ≡ refused q → outcome (bkFields (settings .restricted) s at) ≡ refused q
+unfolding bkAsk
+fields-refuse settings s at q = by-fields (bkFields (settings .restricted) s at) refl
+  where
+    by-fields :
+        (stage : Stage bk.Bk) → bkFields (settings .restricted) s at ≡ stage
+        → andThen (outcome stage) (λ p. andThen (validationRow (accountIn s p) (validationIn s p)) (λ ns. done (packs ns))) ≡ refused q → outcome stage ≡ refused q
+    by-fields (read p past) f e =
+        let h = staged (settings .restricted) s at p past f in
+        let row = row-of-valid (accountIn s p) (validationIn s p) (valid-held 6 s (h .at₆) (p .offsetting) (h .at₁₀) (h .measured)) in
+        absurd (not-refused (rw (row .1) at e))
+    by-fields (faulty f) _ e = ap refused (refusal-of e)
+
+module _ (settings : Settings) (g h : Bool) (s block enciphered : List ℕ) (q : Refusal) where
+  -- so the answering call refuses in them too
+  answer-refuses : (at : ℕ) → bkAsk settings s at ≡ refused q → bkAnswer settings g h s at block enciphered ≡ refused q
+  unfolding bkAnswer
+  answer-refuses at e = rw (fields-refuse settings s at q e)
+
+  by-code : (c : Code) (at : ℕ) → askBy c settings s at ≡ refused q → answerBy c settings g h s at block enciphered ≡ refused q
+  unfolding askBy answerBy
+  by-code Bk at e = answer-refuses at e
+  by-code Other at e = ap refused (refusal-of e)
+
+  by-frame :
+      (o : Outcome ℕ) → andThen o (λ code. askBy (frame.codeOf (drop code s)) settings s (code + 2)) ≡ refused q
+      → silently (andThen o (λ code. done (responding (settings .header) s (commanded settings g h s block enciphered code)))) .number ≡ numberOf q
+  by-frame (done code) e = rw (by-code (frame.codeOf (drop code s)) (code + 2) e)
+  by-frame (refused p) e = ap numberOf (refusal-of e)
+
+pub answer-reads-the-fields : AnswerReadsTheFields
+unfolding asked answered
+answer-reads-the-fields settings g h s block enciphered room room′ q k k′ e =
+    rw (le-leb 65 room′ k′) (by-frame settings g h s block enciphered q (framed (settings .header) s) (rw (le-leb 8 room k) at e))

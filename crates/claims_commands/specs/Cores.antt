@@ -1,11 +1,15 @@
 -- The cores that the promises of the asking and the answering call reject, at the exchange that the paper prints and beside it.
 use Prim.Native.Nat.{ℕ, _≤_}
+use mathlib.Core.Path.{_≡_}
 use mathlib.Core.List.{List, [], _∷_, _++_}
-use mathlib.Core.Bool.{true}
+use mathlib.Core.Bool.{Bool, true}
 use lib.ListN.{length, replicate}
+use Rattle.numbers.specs.Numbers.{refused, numberOf}
+use Rattle.numbers.specs.declared.Refusal.{Refusal}
 use Rattle.numbers.specs.Promise.{Said, Does, quietly}
 use Rattle.numbers.specs.declared.Reply.{Reply}
 use Rattle.settings.specs.Settings.{usually}
+use Rattle.settings.specs.declared.Settings.{Settings}
 use Rattle.commands.specs.Commands.{roomToAsk, roomToAnswer, asked, answered}
 use Rattle.claims_blocks.specs.Figures.{usualAccount}
 use Rattle.claims_blocks.specs.Promises.{Only00, Apart}
@@ -47,3 +51,29 @@ CommandsNotFixed = ((before : List ℕ) → roomToAsk ≤ length before → Apar
 abbrev pub CommandsNotSilent : Type 0
 CommandsNotSilent = ((room : ℕ) (r : Reply) → roomToAsk ≤ room → Does (asks usualAccount (replicate room 0)) (replicate room 0) r (replicate room 0) → ⊥)
     × ((room : ℕ) (r : Reply) → roomToAnswer ≤ room → Does (answers encipheredP9 (replicate room 0)) (replicate room 0) r (replicate room 0) → ⊥)
+
+-- ---- the exchange that the paper runs
+
+-- P12's block
+abbrev pub blockP12 : List ℕ
+blockP12 = 0x01 ∷ 0x23 ∷ 0x45 ∷ 0x67 ∷ 0x89 ∷ 0xA2 ∷ 0x34 ∷ 0x56 ∷ []
+
+-- "`HDR1BL009247FFFFFFFF`: header, response code, 00, offset"
+abbrev pub paperResponse : List ℕ
+paperResponse =
+    0x48 ∷ 0x44 ∷ 0x52 ∷ 0x31 ∷ 0x42 ∷ 0x4C ∷ 0x30 ∷ 0x30 ∷ 0x39 ∷ 0x32 ∷ 0x34 ∷ 0x37 ∷ 0x46 ∷ 0x46 ∷ 0x46 ∷ 0x46 ∷ 0x46 ∷ 0x46 ∷ 0x46 ∷ 0x46 ∷ []
+
+-- the exchange that the paper runs, proved: over every buffer that is long enough the asking call says 00 and P12's block, and the
+-- answering call 00 and the twenty bytes of the response
+abbrev pub PapersExchange : Type 0
+PapersExchange = ((before : List ℕ) → roomToAsk ≤ length before → asks usualAccount before ≡ record { number = 0; written = blockP12 })
+    × ((before : List ℕ) → roomToAnswer ≤ length before → answers encipheredP9 before ≡ record { number = 0; written = paperResponse })
+
+-- ---- the reading of the fields
+
+-- "They also reject an asking call that does the field reading while the answering call skips it": what the asking call refuses, the
+-- answering call refuses with the same number, whatever the key box answered
+abbrev pub AnswerReadsTheFields : Type 0
+AnswerReadsTheFields =
+    (settings : Settings) (pinKeyGood pvkGood : Bool) (s block enciphered : List ℕ) (room room′ : ℕ) (q : Refusal) → roomToAsk ≤ room → roomToAnswer ≤ room′
+    → asked settings s room ≡ refused q → answered settings pinKeyGood pvkGood s block enciphered room′ .number ≡ numberOf q
