@@ -32,14 +32,14 @@ translate-once restricted from to block account fill before r r′ after after�
 -- ---- refusing, and a fixed answer
 
 -- what is done is answered 00
-only-00 : {o : Outcome (List ℕ)} {xs : List ℕ} (before : List ℕ) → o ≡ done xs → Only00 (quietly o) before
+pub only-00 : {o : Outcome (List ℕ)} {xs : List ℕ} (before : List ℕ) → o ≡ done xs → Only00 (quietly o) before
 only-00 before e r after d = d .number ∙ ap (λ (x : Outcome (List ℕ)). quietly x .number) e
 
 -- and begins the buffer
 begins : {o : Outcome (List ℕ)} {x : ℕ} {xs : List ℕ} (before after : List ℕ) (r : Reply) → o ≡ done (x ∷ xs) → Does (quietly o) before r after → getD after 0 0 ≡ x
 begins before after r e d = ap (λ (bs : List ℕ). getD bs 0 0) (rw e at (d .buffer))
 
-apart : {o o′ : Outcome (List ℕ)} {x y : ℕ} {xs ys : List ℕ} (before : List ℕ) → o ≡ done (x ∷ xs) → o′ ≡ done (y ∷ ys) → (x ≡ y → ⊥) → Apart (quietly o) (quietly o′) before
+pub apart : {o o′ : Outcome (List ℕ)} {x y : ℕ} {xs ys : List ℕ} (before : List ℕ) → o ≡ done (x ∷ xs) → o′ ≡ done (y ∷ ys) → (x ≡ y → ⊥) → Apart (quietly o) (quietly o′) before
 apart before e e′ n r after d d′ = n (sym (begins before after r e d) ∙ begins before after r e′ d′)
 
 -- more room than enough changes nothing

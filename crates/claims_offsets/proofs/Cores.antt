@@ -2,39 +2,22 @@
 -- Assumes nothing.
 use Prim.Native.Nat.{ℕ, _≤_}
 use native.Mathlib.Omega.{arith}
-use mathlib.Core.Path.{_≡_, refl, sym, ap, _∙_}
-use mathlib.Core.List.{List, _∷_}
+use mathlib.Core.Path.{_≡_, refl, _∙_}
+use mathlib.Core.List.{List}
 use mathlib.Core.Bool.{Bool, false}
-use lib.ListN.{length, getD}
+use lib.ListN.{length}
 use borrow.Author.Tests.{le-leb}
 use Rattle.nibbles.specs.Nibbles.{nibs, xors, every, leading}
 use Rattle.alphabet.specs.Alphabet.{allOf, valueOf}
-use Rattle.numbers.specs.Numbers.{Outcome, done}
-use Rattle.numbers.specs.Promise.{Does, quietly}
-use Rattle.numbers.specs.declared.Reply.{Reply}
 use Rattle.formats.specs.Formats.{codeOf}
 use Rattle.blocks.specs.Blocks.{contents, readRow}
 use Rattle.ibm3624.specs.Ibm3624.{differences}
 use Rattle.offsets.specs.Offsets.{given, pinWithNatural, pinAndNatural, offsetJudged, offsetMade}
 use Rattle.pvv.specs.Pvv.{those, pvvOf, pvvMade}
 use Rattle.claims_blocks.specs.Figures.{usualAccount}
-use Rattle.claims_blocks.specs.Promises.{Only00, Apart}
+use Rattle.claims_blocks.proofs.Promises.{only-00, apart}
 use Rattle.claims_offsets.specs.Figures.{blockP2, tableP9, encipheredP9}
 use Rattle.claims_offsets.specs.Cores.{encipheredP11, lettersP11, OffsetsNotRefusing, OffsetsNotFixed}
-
--- ---- what an answer must be where a call comes to a value
-
--- it is 00
-only-00 : {o : Outcome (List ℕ)} {xs : List ℕ} (before : List ℕ) → o ≡ done xs → Only00 (quietly o) before
-only-00 before e r after d = d .number ∙ ap (λ (x : Outcome (List ℕ)). quietly x .number) e
-
--- and the value begins the buffer
-begins : {o : Outcome (List ℕ)} {x : ℕ} {xs : List ℕ} (before after : List ℕ) (r : Reply) → o ≡ done (x ∷ xs) → Does (quietly o) before r after → getD after 0 0 ≡ x
-begins before after r e d = ap (λ (bs : List ℕ). getD bs 0 0) (rw e at (d .buffer))
-
--- so no answer fits two values that begin with another element
-apart : {o o′ : Outcome (List ℕ)} {x y : ℕ} {xs ys : List ℕ} (before : List ℕ) → o ≡ done (x ∷ xs) → o′ ≡ done (y ∷ ys) → (x ≡ y → ⊥) → Apart (quietly o) (quietly o′) before
-apart before e e′ n r after d d′ = n (sym (begins before after r e d) ∙ begins before after r e′ d′)
 
 -- ---- what the two calls say
 

@@ -4,5 +4,7 @@ pub mod Texts
 pub mod Digits
 pub mod Promises
 pub mod Converse
+pub mod Refused
+pub mod Counts
 pub mod Numbers
 pub mod Cores
