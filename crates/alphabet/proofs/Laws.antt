@@ -1,6 +1,6 @@
 -- Laws of characters and classes.
 -- Assumes nothing.
-use Prim.Native.Nat.{ℕ, _+_, _-_, _≤_, _<_}
+use Prim.Native.Nat.{ℕ, suc, _+_, _-_, _≤_, _<_}
 use native.Mathlib.Nat.{mod-lt, add-suc}
 use native.Mathlib.Omega.{arith}
 use borrow.Author.Tests.{eq-eqb, ne-eqb}
@@ -18,31 +18,34 @@ pub value-below : (c : ℕ) → valueOf c < 16
 unfolding valueOf
 value-below c = mod-lt (cond (leb 0x41 c) (c - 0x37) (c - 0x30)) (lit< tt)
 
-module _ (k : Class) (s : List ℕ) where
-  -- one more character of the class
-  pub all-on : (i to : ℕ) → i < to → to ≤ length s → admits k (getD s i 0) ≡ true → allOf k (slice i to s) ≡ allOf k (slice (i + 1) to s)
-  unfolding allOf
-  all-on i to h l e = rw (slice-cons i to s 0 h l, e, add-one i)
+-- a verdict on the characters before, and what one more makes of it
+pub and-true : (b : Bool) → b ≡ (b && true)
+and-true true = refl
+and-true false = refl
 
-  -- one of another class
-  pub all-stop : (i to : ℕ) → i < to → to ≤ length s → admits k (getD s i 0) ≡ false → allOf k (slice i to s) ≡ false
-  unfolding allOf
-  all-stop i to h l e = rw (slice-cons i to s 0 h l, e)
-
-  pub all-over : (to : ℕ) → allOf k (slice to to s) ≡ true
-  unfolding allOf
-  all-over to = rw (slice-empty to s)
-
--- too few characters
-and-false : (b : Bool) → (b && false) ≡ false
+pub and-false : (b : Bool) → false ≡ (b && false)
 and-false true = refl
 and-false false = refl
 
+and-assoc : (a b c : Bool) → (a && (b && c)) ≡ ((a && b) && c)
+and-assoc true b c = refl
+and-assoc false b c = refl
+
+module _ (k : Class) (s : List ℕ) where
+  pub all-on : (good : Bool) (i to : ℕ) → i < to → to ≤ length s → (good && allOf k (slice i to s)) ≡ ((good && admits k (getD s i 0)) && allOf k (slice (i + 1) to s))
+  unfolding allOf
+  all-on good i to h l = rw (slice-cons i to s 0 h l, add-one i) (and-assoc good (admits k (getD s i 0)) (allOf k (slice (suc i) to s)))
+
+  pub all-over : (good : Bool) (to : ℕ) → (good && allOf k (slice to to s)) ≡ good
+  unfolding allOf
+  all-over good to = rw (slice-empty to s) (sym (and-true good))
+
+-- too few characters
 pub begins-short : (ts cs : List ℕ) → length cs < length ts → begins ts cs ≡ false
 unfolding begins
 begins-short [] cs h = absurd (omega arith)
 begins-short (t ∷ ts) [] h = refl
-begins-short (t ∷ ts) (c ∷ cs) h = rw (begins-short ts cs (omega arith)) (and-false (eqb t c))
+begins-short (t ∷ ts) (c ∷ cs) h = rw (begins-short ts cs (omega arith)) (sym (and-false (eqb t c)))
 
 module _ (ts cs : List ℕ) (i from : ℕ) (here : i < length ts) (there : from + i < length cs) where
   -- one more character of the text, or another one

@@ -29,19 +29,21 @@ impl Class {
     }
 }
 
-// Whether every character from `from` to before `to` is of the class.
+// Whether every character from `from` to before `to` is of the class. It goes on behind a wrong one: turns that do not hang
+// on one another are taken sixteen at a time.
 pub fn all_of(class: Class, s: &[u8], from: usize, to: usize) -> bool
     requires { ⌜ (from ≤ to) × (to ≤ length (now s)) ⌝ }
     ensures { λ r. ⌜ r ≡ allOf class (slice from to (now (s .entry))) ⌝ }
 {
+    let mut good = true;
     let mut i = from;
     while i < to {
         if !class.admits(s[i]) {
-            return false;
+            good = false;
         }
         i += 1;
     }
-    true
+    good
 }
 
 // How many characters there are from a place on.
