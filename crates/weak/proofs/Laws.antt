@@ -1,19 +1,18 @@
 -- What the reader of the weak list answers, what the code's answers tell of it, and the laws of its search.
 -- Assumes nothing.
-use Prim.Native.Nat.{ℕ, zero, suc, _+_, _-_, _*_, _≤_, _<_}
+use Prim.Native.Nat.{ℕ, zero, suc, _+_, _-_, _*_, _%_, _≤_, _<_}
 use native.Mathlib.Nat.{add-zero, add-assoc, suc-mul, mul-le-mul-right}
-use native.Mathlib.Numerals.{add-one}
 use native.Mathlib.Omega.{arith}
 use mathlib.Core.Path.{_≡_, refl, sym, ap, _∙_}
-use mathlib.Core.List.{List, _∷_, map}
+use mathlib.Core.List.{List, [], _∷_, map}
 use mathlib.Core.Bool.{Bool, true, false, cond}
-use lib.ListN.{length, getD, take, drop, length-map, length-drop, drop-of-length-le}
-use lib.Seq.{length-take-le, drop-cons, drop-drop, getD-take, getD-drop}
-use lib.Dec.{eqb}
-use borrow.Author.Tests.{eq-eqb, ne-eqb, eqb-true, eqb-false}
+use lib.ListN.{length, take, drop, length-map, length-drop}
+use lib.Seq.{length-take-le, drop-drop}
+use lib.Dec.{leb, eqb}
+use borrow.Author.Tests.{eq-eqb, ne-eqb, eqb-true, eqb-false, leb-true, lt-leb}
 use Rattle.nibbles.specs.Nibbles.{same}
-use Rattle.nibbles.proofs.Laws.{map-at, same-false}
-use Rattle.alphabet.specs.Alphabet.{valueOf}
+use Rattle.nibbles.proofs.Laws.{and-left, and-right, same-false}
+use Rattle.alphabet.specs.Alphabet.{admits, allOf, begins, characters, valueOf}
 use Rattle.alphabet.specs.declared.Class.the-variants.{Digit}
 use Rattle.numbers.specs.Numbers.{done, refused, andThen}
 use Rattle.numbers.proofs.Laws.{then-done, value-of}
@@ -26,7 +25,7 @@ use Rattle.fields.specs.declared.Value.the-variants as value
 use Rattle.fields.specs.declared.Mark.the-variants.{Behind, Absent}
 use Rattle.fields.proofs.Laws.{run-whole, run-found, run-refuses, number-found, number-refuses, number-read, mark-there, mark-absent, value-of-found, value-of-bad}
 use Rattle.weak.specs.Weak.{noneAt, listed, weakField, entries, isOn}
-use Rattle.weak.specs.Answers.{weakFrom, Lies}
+use Rattle.weak.specs.Answers.{weakFrom, Lies, lists}
 use Rattle.weak.specs.declared.Weak.{Weak}
 use Rattle.weak.specs.declared.WeakRead.the-variants.{Got, Bad}
 
@@ -238,6 +237,11 @@ module _ (mark at : ℕ) (cs : List ℕ) (w : Weak) (n : ℕ) where
           let g = run-found Digit WeakList03 WeakList03 (count * each) (drop 5 cs) (count * each) (count * each) r .2 in
           omega (arith, length-drop 3 cs, length-drop 5 cs)
 
+-- no characters are digits
+no-digits : (cs : List ℕ) → allOf Digit (take 0 cs) ≡ true
+unfolding allOf
+no-digits cs = refl
+
 -- a weak list that was found lies in the command
 pub weak-lies : (mark at : ℕ) (s : List ℕ) (w : Weak) (n : ℕ) → weakField mark at (drop at s) ≡ done (w, n) → at ≤ length s → Lies w s
 weak-lies mark at s w n e h = go (weak-tells mark at (drop at s) w n e)
@@ -246,70 +250,76 @@ weak-lies mark at s w n e h = go (weak-tells mark at (drop at s) w n e)
     onward = rw length-drop at (weak-onward mark at (drop at s) w n e)
 
     go : Tells mark at (drop at s) w n → Lies w s
-    go (unmarked t e l) = rw e (record { short = omega arith; few = omega arith; inside = omega arith })
-    go (empty t c e l) = rw e (record { short = omega arith; few = omega arith; inside = omega arith })
+    go (unmarked t e l) = rw e (record { short = omega arith; few = omega arith; inside = omega arith; digits = no-digits (drop at s) })
+    go (empty t c e l) = rw e (record { short = omega arith; few = omega arith; inside = omega arith; digits = no-digits (drop at s) })
     go (filled count each t c some m r e l) =
         let high = number-found 4 12 Field15 (drop 3 (drop at s)) each 2 m .3 in
         let most = number-found 0 99 WeakList03 (drop 1 (drop at s)) count 2 c .3 in
-        rw e (record { short = high; few = most; inside = omega (arith, onward) })
+        let whole = run-found Digit WeakList03 WeakList03 (count * each) (drop 5 (drop at s)) (count * each) (count * each) r .3 in
+        rw e (record { short = high; few = most; inside = omega (arith, onward); digits = rw (drop-drop 5 at s) at whole })
 
--- ---- an entry and a PIN, digit by digit
+-- ---- an entry and a PIN
 
-module _ (xs ys : List ℕ) (i : ℕ) (here : i < length xs) (there : i < length ys) where
-  -- one more digit that is the same
-  pub same-on : getD ys i 0 ≡ getD xs i 0 → same (drop i xs) (drop i ys) ≡ same (drop (i + 1) xs) (drop (i + 1) ys)
-  unfolding same
-  same-on e = rw (drop-cons xs i 0 here, drop-cons ys i 0 there, eq-eqb (getD xs i 0) (getD ys i 0) (sym e), add-one i)
+-- a digit is the character's where the character is the digit's
+digit-at : (d c : ℕ) → admits Digit c ≡ true → eqb (0x30 + d) c ≡ eqb d (valueOf c)
+unfolding valueOf
+digit-at d c e =
+    let low = leb-true 0x30 c (and-left (leb 0x30 c) (leb c 0x39) e) in
+    let high = leb-true c 0x39 (and-right (leb 0x30 c) (leb c 0x39) e) in
+    rw (lt-leb 0x41 c (omega arith)) (go low high (eqb (0x30 + d) c) refl)
+  where
+    go : 0x30 ≤ c → c ≤ 0x39 → (b : Bool) → eqb (0x30 + d) c ≡ b → b ≡ eqb d ((c - 0x30) % 16)
+    go low high true h = let same = eqb-true (0x30 + d) c h in sym (eq-eqb d ((c - 0x30) % 16) (omega arith))
+    go low high false h = sym (ne-eqb d ((c - 0x30) % 16) (λ e. eqb-false (0x30 + d) c h (omega arith)))
 
-  -- another digit
-  pub same-stop : (getD ys i 0 ≡ getD xs i 0 → ⊥) → same (drop i xs) (drop i ys) ≡ false
-  unfolding same
-  same-stop d = rw (drop-cons xs i 0 here, drop-cons ys i 0 there, ne-eqb (getD xs i 0) (getD ys i 0) (λ e. d (sym e)))
+-- the PIN's characters stand where the entry's digits are the PIN's
+pub entry-there : (ds cs : List ℕ) → length ds ≤ length cs → allOf Digit (take (length ds) cs) ≡ true → begins (characters ds) cs ≡ same ds (map valueOf (take (length ds) cs))
+unfolding allOf begins same
+entry-there [] cs h e = refl
+entry-there (d ∷ ds) [] h e = refl
+entry-there (d ∷ ds) (c ∷ cs) h e =
+    rw (digit-at d c (and-left (admits Digit c) (allOf Digit (take (length ds) cs)) e), entry-there ds cs (omega arith) (and-right (admits Digit c) (allOf Digit (take (length ds) cs)) e))
 
--- no digit is left
-pub same-over : (xs ys : List ℕ) (i : ℕ) → length xs ≤ i → length ys ≤ i → same (drop i xs) (drop i ys) ≡ true
-unfolding same
-same-over xs ys i h k = rw (drop-of-length-le xs h, drop-of-length-le ys k)
-
--- the digits of the entry at a place
-abbrev pub entry : ℕ → ℕ → List ℕ → List ℕ
-entry from n s = map valueOf (take n (drop from s))
-
-module _ (s : List ℕ) (from n : ℕ) (inside : from + n ≤ length s) where
-  -- it has as many characters
-  pub entry-taken : length (take n (drop from s)) ≡ n
-  entry-taken = length-take-le n (drop from s) (rw length-drop (omega arith))
-
-  -- and as many digits
-  pub entry-length : length (entry from n s) ≡ n
-  entry-length = length-map (take n (drop from s)) valueOf ∙ entry-taken
-
-  -- each digit is that of its character
-  pub entry-at : (i : ℕ) → i < n → getD (entry from n s) i 0 ≡ valueOf (getD s (from + i) 0)
-  entry-at i h = map-at valueOf (take n (drop from s)) i 0 0 (rw entry-taken h) ∙ ap valueOf (getD-take n (drop from s) i 0 h ∙ getD-drop from s i 0)
+-- digits that are some of digits
+digits-within : (m j n : ℕ) (cs : List ℕ) → j + n ≤ m → allOf Digit (take m cs) ≡ true → allOf Digit (take n (drop j cs)) ≡ true
+unfolding allOf
+digits-within m j zero cs h e = refl
+digits-within zero zero (suc n) cs h e = absurd (omega arith)
+digits-within (suc m) zero (suc n) [] h e = refl
+digits-within (suc m) zero (suc n) (c ∷ cs) h e =
+    rw (and-left (admits Digit c) (allOf Digit (take m cs)) e) (digits-within m zero n cs (omega arith) (and-right (admits Digit c) (allOf Digit (take m cs)) e))
+digits-within zero (suc j) (suc n) cs h e = absurd (omega arith)
+digits-within (suc m) (suc j) (suc n) [] h e = refl
+digits-within (suc m) (suc j) (suc n) (c ∷ cs) h e = digits-within m j (suc n) cs (omega arith) (and-right (admits Digit c) (allOf Digit (take m cs)) e)
 
 -- ---- whether a PIN is on the list
 
-module _ (pin : List ℕ) (k n i : ℕ) (cs : List ℕ) where
-  -- one entry more in front of the rest
-  entries-next : i < k → entries (k - i) n cs ≡ map valueOf (take n cs) ∷ entries (k - (i + 1)) n (drop n cs)
-  unfolding entries
-  entries-next h = let e : k - i ≡ suc (k - (i + 1)) = omega arith in rw e
+module _ (text : List ℕ) (k n i : ℕ) (cs : List ℕ) where
+  -- the text stands at the next place
+  pub lists-here : i < k → begins text cs ≡ true → lists text (k - i) n cs ≡ true
+  unfolding lists
+  lists-here h e = let next : k - i ≡ suc (k - (i + 1)) = omega arith in rw (next, e)
 
-  -- it is the next entry
-  pub on-here : i < k → same pin (map valueOf (take n cs)) ≡ true → isOn pin (entries (k - i) n cs) ≡ true
-  unfolding isOn
-  on-here h e = rw (entries-next h, e)
+  -- it does not, and the rest of the places decides
+  pub lists-next : i < k → begins text cs ≡ false → lists text (k - i) n cs ≡ lists text (k - (i + 1)) n (drop n cs)
+  unfolding lists
+  lists-next h e = let next : k - i ≡ suc (k - (i + 1)) = omega arith in rw (next, e)
 
-  -- it is not, and the rest of the entries decides
-  pub on-next : i < k → same pin (map valueOf (take n cs)) ≡ false → isOn pin (entries (k - i) n cs) ≡ isOn pin (entries (k - (i + 1)) n (drop n cs))
-  unfolding isOn
-  on-next h e = rw (entries-next h, e)
+  -- no place is left
+  pub lists-over : k ≤ i → lists text (k - i) n cs ≡ false
+  unfolding lists
+  lists-over h = let none : k - i ≡ 0 = omega arith in rw none
 
-  -- no entry is left
-  pub on-over : k ≤ i → isOn pin (entries (k - i) n cs) ≡ false
-  unfolding isOn entries
-  on-over h = let e : k - i ≡ 0 = omega arith in rw e
+-- a PIN is on the list where its characters stand in it
+pub lists-pin : (pin : List ℕ) (n : ℕ) → length pin ≡ n → (k : ℕ) (cs : List ℕ) → k * n ≤ length cs → allOf Digit (take (k * n) cs) ≡ true
+    → lists (characters pin) k n cs ≡ isOn pin (entries k n cs)
+unfolding lists isOn entries
+lists-pin pin n l zero cs h e = refl
+lists-pin pin n l (suc k) cs h e =
+    let room = rw suc-mul at h in
+    let first = digits-within (suc k * n) 0 n cs (omega (arith, suc-mul k n)) e in
+    let rest = digits-within (suc k * n) n (k * n) cs (omega (arith, suc-mul k n)) e in
+    rw (rw l at (entry-there pin cs (omega arith) (rw l first)), lists-pin pin n l k (drop n cs) (rw length-drop (omega arith)) rest)
 
 -- "A weak PIN of another length than the PIN never matches"
 pub on-other : (pin : List ℕ) (n : ℕ) → (length pin ≡ n → ⊥) → (k : ℕ) (cs : List ℕ) → k * n ≤ length cs → isOn pin (entries k n cs) ≡ false

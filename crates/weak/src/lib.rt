@@ -1,12 +1,10 @@
 // The weak PINs of a command: their field, and whether a PIN is one of them.
 ghost use mathlib.Core.Path.{_≡_};
-ghost use mathlib.Core.List.{map};
 ghost use Prim.Native.Nat.{_+_, _≤_};
-ghost use lib.ListN.{length, take, drop};
-ghost use Rattle.nibbles.specs.Nibbles.{row, same};
-ghost use Rattle.alphabet.specs.Alphabet.{valueOf};
+ghost use lib.ListN.{drop};
+ghost use Rattle.nibbles.specs.Nibbles.{row};
 ghost use Rattle.weak.specs.Weak.{listed, weakField, isOn, weakPins};
-ghost use Rattle.weak.specs.Answers.{weakFrom, refusalIn, Lies};
+ghost use Rattle.weak.specs.Answers.{weakFrom, refusalIn, Lies, lists};
 use alphabet::Class;
 use fields::Cursor;
 use fields::Mark;
@@ -89,19 +87,21 @@ pub fn weak_field(cursor: Cursor, command: &[u8], mark: u8) -> WeakRead
     list_behind(start, count, next, command)
 }
 
-// Whether the entry at a place is the PIN, which has as many digits.
-fn is_entry(command: &[u8], from: usize, n: usize, digits: u64) -> bool
-    requires { ⌜ (n ≤ 16) × (from + n ≤ length (now command)) ⌝ }
-    ensures { λ r. ⌜ r ≡ same (row n digits) (map valueOf (take n (drop from (now (command .entry))))) ⌝ }
+// Whether a text stands at the place of one of the weak PINs.
+fn lists(weak: Weak, command: &[u8], text: &[u8]) -> bool
+    requires { ⌜ Lies weak (now command) ⌝ }
+    ensures { λ r. ⌜ r ≡ lists (now (text .entry)) (weak .count) (weak .length) (drop (weak .list) (now (command .entry))) ⌝ }
 {
+    let mut from = weak.list;
     let mut i = 0;
-    while i < n {
-        if alphabet::value(command[from + i]) as u64 != nibbles::nibble(digits, i) {
-            return false;
+    while i < weak.count {
+        if alphabet::has_at(command, from, text) {
+            return true;
         }
+        from += weak.length;
         i += 1;
     }
-    true
+    false
 }
 
 // Whether a PIN of n digits is on the weak list.
@@ -109,18 +109,11 @@ pub fn is_weak(weak: Weak, command: &[u8], n: usize, digits: u64) -> bool
     requires { ⌜ Lies weak (now command) ⌝ }
     ensures { λ r. ⌜ r ≡ isOn (row n digits) (weakPins weak (now (command .entry))) ⌝ }
 {
-    let length = weak.length;
-    if length != n {
+    if weak.length != n {
         return false;
     }
-    let mut from = weak.list;
-    let mut i = 0;
-    while i < weak.count {
-        if is_entry(command, from, length, digits) {
-            return true;
-        }
-        from += length;
-        i += 1;
-    }
-    false
+    // as characters, once: the list is then compared as it stands
+    let mut pin = [0u8; 12];
+    pins::put_characters(digits, n, &mut pin);
+    lists(weak, command, &pin[..n])
 }

@@ -1,98 +1,73 @@
--- `weak::is_weak` meets its contract. The loop's invariant: the rest of the entries decides. Where the lengths differ no entry matches.
+-- `weak::is_weak` meets its contract. Where the lengths differ no entry matches; else the PIN's characters stand at one of the places.
 -- Assumes nothing.
-use Prim.Native.Nat.{ℕ, _+_, _-_, _*_, _≤_}
-use native.Mathlib.Nat.{sub-zero}
+use Prim.Native.Nat.{ℕ, _+_}
 use native.Mathlib.Omega.{arith}
 use mathlib.Core.Path.{_≡_, sym, ap, _∙_}
-use mathlib.Core.List.{List}
-use lib.ListN.{drop, length-drop}
-use lib.Seq.{drop-drop}
+use mathlib.Core.List.{List, _++_}
+use lib.ListN.{length, take, drop, length-map, length-drop}
+use lib.Seq.{take-at}
 use borrow.Author.Needs.{needs}
-use Rattle.nibbles.specs.Nibbles.{row, same}
+use Rattle.nibbles.specs.Nibbles.{row}
 use Rattle.nibbles.proofs.Laws.{row-length}
-use Rattle.weak.specs.Weak.{entries, isOn, weakPins}
-use Rattle.weak.proofs.Laws.{entry, entry-inside, on-here, on-next, on-over, on-other}
+use Rattle.alphabet.specs.Alphabet.{characters}
+use Rattle.weak.specs.Weak.{isOn, weakPins}
+use Rattle.weak.specs.Answers.{lists, Lies}
+use Rattle.weak.specs.declared.Weak.{Weak}
+use Rattle.weak.proofs.Laws.{lists-pin, on-other}
 use Rattle.weak.proofs.is_weak.Statement.{statement}
 use Rattle.weak.proofs.is_weak.Tie as tie
 
-abbrev Inv-loop : tie.InvT-loop
-Inv-loop weak command n digits length from₀ i₀ from i =
-    (i ≤ weak .count) × (from ≡ weak .list + i * weak .length)
-    × (isOn (row n digits) (weakPins weak command) ≡ isOn (row n digits) (entries (weak .count - i) (weak .length) (drop from command)))
+-- the characters of a row have its length
+characters-length : (n w : ℕ) → length (characters (row n w)) ≡ n
+characters-length n w = length-map (row n w) (λ d. 0x30 + d) ∙ row-length n w
 
-abbrev μ-loop : tie.MeasureT-loop
-μ-loop weak command n digits length from₀ i₀ from i = weak .count - i
+-- what was written over the beginning of the room
+written : (n w : ℕ) (room out : List ℕ) → out ≡ characters (row n w) ++ room → take n out ≡ characters (row n w)
+written n w room out e = ap (take n) e ∙ take-at (characters (row n w)) room n (characters-length n w)
 
-returns : tie.Need-returns Inv-loop μ-loop
+-- its characters stand in the list where the PIN is on it
+pin-listed : (k : Weak) (s : List ℕ) (n w : ℕ) → Lies k s → n ≡ k .length → lists (characters (row n w)) (k .count) (k .length) (drop (k .list) s) ≡ isOn (row n w) (weakPins k s)
+pin-listed k s n w l e = let room = l .inside in lists-pin (row n w) (k .length) (row-length n w ∙ e) (k .count) (drop (k .list) s) (rw length-drop (omega arith)) (l .digits)
+
+returns : tie.Need-returns
 returns c =
-    let a = c .before .before .args in
-    let room = c .before .before .pre .inside in
+    let a = c .before .before .before .args in
+    let room = c .before .before .before .pre .inside in
     sym (on-other (row (a .n) (a .digits)) (a .weak .length) (λ e. let alike = sym e ∙ row-length (a .n) (a .digits) in omega arith)
     (a .weak .count) (drop (a .weak .list) (a .command .now)) (rw length-drop (omega arith)))
 
-loop-holds : tie.Need-loop-holds Inv-loop μ-loop
-loop-holds c = (omega arith, omega arith, rw sub-zero)
+slice-aggregate-put-characters : tie.Need-slice-aggregate-put-characters
+slice-aggregate-put-characters c = search needs
 
-is-entry-requires : tie.Need-is-entry-requires Inv-loop μ-loop
-is-entry-requires c κs =
-    let a = c .before .before .before .before .before .args in
-    let l = c .before .before .loop in
-    let short = c .before .before .before .before .before .pre .short in
-    let inside = entry-inside (a .weak) (a .command .now) (l .i) (c .before .before .before .before .before .pre) (omega arith) in
-    (omega arith, omega arith)
+put-characters-requires : tie.Need-put-characters-requires
+put-characters-requires c κs = search needs
 
-returns-2 : tie.Need-returns-2 Inv-loop μ-loop
+array-share-prefix-pin : tie.Need-array-share-prefix-pin
+array-share-prefix-pin c = search needs
+
+slice-aggregate-lists : tie.Need-slice-aggregate-lists
+slice-aggregate-lists c =
+    let a = c .before .before .before .before .before .before .before .args in
+    sym (ap length (written (a .n) (a .digits) _ _ (c .before .before .put-characters .ensures)) ∙ characters-length (a .n) (a .digits))
+
+lists-requires : tie.Need-lists-requires
+lists-requires c κs = search needs
+
+returns-2 : tie.Need-returns-2
 returns-2 c =
-    let a = c .before .before .before .before .before .before .before .args in
-    let l = c .before .before .before .before .loop in
-    let alike : a .n ≡ a .weak .length = omega arith in
-    let there = ap (λ (k : ℕ). same (row k (a .digits)) (entry (l .from) (a .weak .length) (a .command .now))) alike ∙ sym (c .before .is-entry .ensures) ∙ c .if3 .taken in
-    sym (l .inv .2 ∙ on-here (row (a .n) (a .digits)) (a .weak .count) (a .weak .length) (l .i) (drop (l .from) (a .command .now)) (omega arith) there)
-
-add-from : tie.Need-add-from Inv-loop μ-loop
-add-from c =
-    let a = c .before .before .before .before .before .before .before .args in
-    let l = c .before .before .before .before .loop in
-    let inside = entry-inside (a .weak) (a .command .now) (l .i) (c .before .before .before .before .before .before .before .pre) (omega arith) in
-    omega arith
-
-add-i : tie.Need-add-i Inv-loop μ-loop
-add-i c = search needs
-
-loop-less : tie.Need-loop-less Inv-loop μ-loop
-loop-less c = search needs
-
-loop-again : tie.Need-loop-again Inv-loop μ-loop
-loop-again c =
-    let a = c .before .before .before .before .before .before .before .args in
-    let l = c .before .before .before .before .loop in
-    let pin = row (a .n) (a .digits) in
-    let alike : a .n ≡ a .weak .length = omega arith in
-    let other = ap (λ (k : ℕ). same (row k (a .digits)) (entry (l .from) (a .weak .length) (a .command .now))) alike ∙ sym (c .before .is-entry .ensures) ∙ c .if3 .left in (
-      omega arith,
-      omega arith,
-      l .inv .2 ∙ on-next pin (a .weak .count) (a .weak .length) (l .i) (drop (l .from) (a .command .now)) (omega arith) other
-          ∙ ap (λ (cs : List ℕ). isOn pin (entries (a .weak .count - (l .i + 1)) (a .weak .length) cs)) (drop-drop (a .weak .length) (l .from) (a .command .now)),
-    )
-
-returns-3 : tie.Need-returns-3 Inv-loop μ-loop
-returns-3 c =
-    let a = c .before .before .before .before .before .args in
-    let l = c .before .before .loop in
-    sym (l .inv .2 ∙ on-over (row (a .n) (a .digits)) (a .weak .count) (a .weak .length) (l .i) (drop (l .from) (a .command .now)) (omega arith))
+    let a = c .before .before .before .before .before .before .before .before .args in
+    c .lists .ensures
+    ∙ ap (λ (text : List ℕ). lists text (a .weak .count) (a .weak .length) (drop (a .weak .list) (a .command .now))) (written (a .n) (a .digits) _ _ (c .before .before .before .put-characters .ensures))
+    ∙ pin-listed (a .weak) (a .command .now) (a .n) (a .digits) (c .before .before .before .before .before .before .before .before .pre) (omega arith)
 
 pub is-weak-spec : {M : Type 1} → statement M
 is-weak-spec =
     tie.close
     (tie.spec
-    Inv-loop
-    μ-loop
     returns
-    loop-holds
-    is-entry-requires
-    returns-2
-    add-from
-    add-i
-    loop-less
-    loop-again
-    returns-3)
+    slice-aggregate-put-characters
+    put-characters-requires
+    array-share-prefix-pin
+    slice-aggregate-lists
+    lists-requires
+    returns-2)
