@@ -1,6 +1,6 @@
 -- One answer to every promise of the ground: each function cites the law of its shape.
 -- Assumes nothing.
-use Rattle.claims_functions.specs.Ground.{NibblesSettled, AlphabetSettled, NumbersSettled, SettingsSettled, FormatsSettled, PinsSettled}
+use Rattle.claims_functions.specs.Ground.{NibblesSettled, AlphabetSettled, NumbersSettled, SettingsSettled, FormatsSettled, PinsSettled, ClassroomSettled}
 use Rattle.claims_functions.proofs.Once.{settled, left, replied}
 
 pub nibbles-once : NibblesSettled
@@ -71,3 +71,6 @@ pins-once = record {
   packed = λ digits. settled;
   put-characters = λ digits n before. left;
 }
+
+pub classroom-once : ClassroomSettled
+classroom-once = record { hex = λ block. settled }

@@ -1,4 +1,4 @@
--- One answer to every promise of the ground: nibbles, characters, numbers, settings, formats, PINs and accounts.
+-- One answer to every promise of the ground: nibbles, characters, numbers, settings, formats, PINs and accounts, and text.
 -- Each line repeats by its text what the function of its name ensures, its inputs as variables, the lent buffer as it was as `before`.
 -- What a function requires is left out: no shape needs it, and outside it a contract promises nothing.
 use Prim.Native.Nat.{ℕ, _/_, _%_, _+_, _*_, _^_, _-_}
@@ -26,6 +26,7 @@ use Rattle.pins.specs.declared.Reading.{Reading}
 use Rattle.pins.specs.declared.Row.{Row}
 use Rattle.formats.specs.Answers as chosen
 use Rattle.pins.specs.Answers as reading
+use Rattle.classroom.specs.Text.{spelled}
 use Rattle.claims_functions.specs.Once.{Settled, Left, Replied}
 
 -- every public function of nibbles
@@ -90,3 +91,7 @@ pub record PinsSettled : Type 0 where
   pub handed : (digits : List ℕ) → Settled (readingOf (pinHanded digits))
   pub packed : (digits : List ℕ) → Settled (readingOf (digitsHanded digits))
   pub put-characters : (digits n : ℕ) (before : List ℕ) → Left (characters (row n digits) ++ drop n before)
+
+-- every public function of classroom
+pub record ClassroomSettled : Type 0 where
+  pub hex : (block : List ℕ) → Settled (spelled block)
