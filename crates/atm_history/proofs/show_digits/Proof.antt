@@ -1,0 +1,66 @@
+-- `atm_history::show_digits` is safe and ends: the loop stays within the digits, and the line's end is one character.
+-- Assumes nothing.
+use Prim.Native.Nat.{_≤_, _-_}
+use native.Mathlib.Omega.{arith}
+use mathlib.Core.Path.{_≡_, refl}
+use lib.ListN.{length}
+use borrow.Author.Needs.{needs}
+use Rattle.atm_history.proofs.show_digits.Statement.{statement}
+use Rattle.atm_history.proofs.show_digits.Tie as tie
+
+abbrev Inv-loop : tie.InvT-loop
+Inv-loop label digits i₀ end i = (i ≤ length digits) × (length end ≡ 1)
+
+abbrev μ-loop : tie.MeasureT-loop
+μ-loop label digits i₀ end i = length digits - i
+
+write-all-requires : tie.Need-write-all-requires Inv-loop μ-loop
+write-all-requires c κs = search needs
+
+loop-holds : tie.Need-loop-holds Inv-loop μ-loop
+loop-holds c = (search needs, refl)
+
+shared-slice-read-print-decimal : tie.Need-shared-slice-read-print-decimal Inv-loop μ-loop
+shared-slice-read-print-decimal c = search needs
+
+cast-print-decimal : tie.Need-cast-print-decimal Inv-loop μ-loop
+cast-print-decimal c = omega (arith, c .shared-slice-known3 .given (c .before .before .loop .i))
+
+print-decimal-requires : tie.Need-print-decimal-requires Inv-loop μ-loop
+print-decimal-requires c κs = search needs
+
+add-i : tie.Need-add-i Inv-loop μ-loop
+add-i c = search needs
+
+loop-less : tie.Need-loop-less Inv-loop μ-loop
+loop-less c = search needs
+
+loop-again : tie.Need-loop-again Inv-loop μ-loop
+loop-again c = (search needs, search needs)
+
+slice-aggregate-write-all : tie.Need-slice-aggregate-write-all Inv-loop μ-loop
+slice-aggregate-write-all c = search needs
+
+write-all-requires-2 : tie.Need-write-all-requires-2 Inv-loop μ-loop
+write-all-requires-2 c κs = search needs
+
+returns : tie.Need-returns Inv-loop μ-loop
+returns c = search needs
+
+pub show-digits-spec : {M : Type 1} → statement M
+show-digits-spec =
+    tie.close
+    (tie.spec
+    Inv-loop
+    μ-loop
+    write-all-requires
+    loop-holds
+    shared-slice-read-print-decimal
+    cast-print-decimal
+    print-decimal-requires
+    add-i
+    loop-less
+    loop-again
+    slice-aggregate-write-all
+    write-all-requires-2
+    returns)
