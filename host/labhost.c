@@ -19,6 +19,7 @@
 
 #include "player.h"
 #include "script.h"
+#include "text.h"
 
 #define STATUS_FAILED 1
 #define STATUS_MALFORMED 2
@@ -30,6 +31,16 @@ struct score {
 
 /* A script is long, and one is read at a time. */
 static struct script script;
+
+static void tell_fault(const char *path)
+{
+	fprintf(stderr, "%s:%u: %s", path, script.line, script.fault);
+	if (script.word != NULL) {
+		fputs(": ", stderr);
+		text_show(stderr, (const uint8_t *)script.word, script.word_len);
+	}
+	putc('\n', stderr);
+}
 
 /* Whether a script is well formed from its first line to its last. */
 static bool check(const char *path, bool may_be_open)
@@ -44,7 +55,7 @@ static bool check(const char *path, bool may_be_open)
 		step = script_next(&script);
 	while (step != SCRIPT_END && step != SCRIPT_FAULT);
 	if (step == SCRIPT_FAULT)
-		fprintf(stderr, "%s:%u: %s\n", path, script.line, script.fault);
+		tell_fault(path);
 	script_close(&script);
 	return step == SCRIPT_END;
 }

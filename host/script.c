@@ -275,6 +275,15 @@ static enum script_step refuse(struct script *script, const char *fault)
 	return SCRIPT_FAULT;
 }
 
+/* A word may hold any byte but 00 and be as long as its line, so it is not put
+ * into the fault's words: whoever tells the fault shows it. */
+static enum script_step refuse_word(struct script *script, const char *word, size_t len)
+{
+	script->word = word;
+	script->word_len = len;
+	return refuse(script, "no line of a script begins with this word");
+}
+
 /* Drops what is the matter of one exchange alone. */
 static void begin_exchange(struct script *script)
 {
@@ -291,7 +300,7 @@ static enum script_step take_line(struct script *script, const char *word)
 	const struct kind *kind = kind_of(word, len);
 
 	if (kind == NULL)
-		return refuse(script, "no line of a script begins with this word");
+		return refuse_word(script, word, len);
 	if (script->now.answers.given)
 		begin_exchange(script);
 	if (kind->place == PLACE_BEFORE_ASKS && script->now.asks.given)

@@ -87,6 +87,8 @@ struct script {
 	char text[SCRIPT_LINE];  /* the line, without its end */
 	const char *rest;        /* what stands in it behind its first word */
 	const char *fault;
+	const char *word;        /* the word that the fault is about, or NULL */
+	size_t word_len;
 	bool may_be_open;  /* ? is taken as an expectation */
 	bool in_command;   /* `more` may follow */
 	bool begun;        /* something stands behind the last `answers` */
