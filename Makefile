@@ -1,5 +1,5 @@
 # Short names for the steps of the gate. What each does stands in .ci/step.
-.PHONY: check setup prove archive host vectors compare compare-offsets compare-commands lessons lab example header reference fmt clean
+.PHONY: check setup prove archive host vectors compare compare-offsets compare-commands lessons lab example install installed uninstall header reference fmt clean
 
 check:
 	.ci/run
@@ -13,10 +13,13 @@ setup:
 archive header reference: setup
 	.ci/step $@
 
-host example: archive
+host example install installed: archive
 	.ci/step $@
 
 vectors compare compare-offsets compare-commands lessons lab: host
+	.ci/step $@
+
+uninstall:
 	.ci/step $@
 
 fmt:
