@@ -1,5 +1,5 @@
 # Short names for the steps of the gate. What each does stands in .ci/step.
-.PHONY: check setup prove archive host vectors compare compare-offsets compare-commands lessons lab example install installed uninstall header reference fmt clean
+.PHONY: check setup prove archive host vectors compare compare-offsets compare-commands lessons lab example install installed uninstall bench header reference fmt clean
 
 check:
 	.ci/run
@@ -19,6 +19,10 @@ host example install installed: archive
 vectors compare compare-offsets compare-commands lessons lab: host
 	.ci/step $@
 
+bench: archive
+	.ci/setup $@
+	.ci/step $@
+
 uninstall:
 	.ci/step $@
 
@@ -26,4 +30,4 @@ fmt:
 	rt fmt
 
 clean:
-	rm -rf target build reference/target
+	rm -rf target build reference/target bench/face/target

@@ -1,0 +1,25 @@
+/*
+ * The two calls of each core, ours and the reference's, under one shape, so
+ * that one loop times both.
+ */
+#ifndef BENCH_CALLS_H
+#define BENCH_CALLS_H
+
+#include "loads.h"
+#include "quillgimlet.h"
+
+enum core { OURS, REFERENCE, CORES };
+enum call { ASK, ANSWER, CALLS };
+
+/* The longest response; more than the asking call wants. */
+#define ROOM 65u
+
+/* Makes the call for one command of a load. */
+qg_reply make_call(enum core core, enum call call, const struct load *load,
+	const struct command *command, uint8_t *out);
+
+/* Whether both cores answer each command of a load with the same number, count
+ * and bytes, and with 00 just where the load says that it is taken. */
+bool answered_alike(enum call call, const struct load *load);
+
+#endif

@@ -1,0 +1,71 @@
+//! The reference's asking and answering call with the C face's parameters, so that one C loop times both.
+
+use reference::{Reply, Settings};
+use std::slice;
+
+#[repr(C)]
+pub struct FaceSettings {
+    header: usize,
+    restricted: u8,
+    variable: u8,
+}
+
+#[repr(C)]
+pub struct FaceReply {
+    number: u32,
+    written: u32,
+}
+
+impl FaceSettings {
+    fn inner(&self) -> Settings {
+        Settings::of_face(self.header, self.restricted, self.variable)
+    }
+}
+
+impl FaceReply {
+    fn of(reply: Reply) -> FaceReply {
+        FaceReply { number: reply.number, written: reply.written }
+    }
+}
+
+/// # Safety
+/// Each pointer must lend as many bytes as the length beside it says, and `out` for writing.
+#[no_mangle]
+pub unsafe extern "C" fn reference_ask(
+    settings: FaceSettings,
+    command: *const u8,
+    command_len: usize,
+    out: *mut u8,
+    out_len: usize,
+) -> FaceReply {
+    let command = slice::from_raw_parts(command, command_len);
+    let out = slice::from_raw_parts_mut(out, out_len);
+    FaceReply::of(reference::ask(settings.inner(), command, out))
+}
+
+/// # Safety
+/// Each pointer must lend as many bytes as the length beside it says, and `out` for writing.
+#[no_mangle]
+pub unsafe extern "C" fn reference_answer(
+    settings: FaceSettings,
+    pin_key_parity_good: u8,
+    pvk_parity_good: u8,
+    command: *const u8,
+    command_len: usize,
+    pin_block: *const u8,
+    pin_block_len: usize,
+    enciphered: *const u8,
+    enciphered_len: usize,
+    out: *mut u8,
+    out_len: usize,
+) -> FaceReply {
+    FaceReply::of(reference::answer(
+        settings.inner(),
+        pin_key_parity_good != 0,
+        pvk_parity_good != 0,
+        slice::from_raw_parts(command, command_len),
+        slice::from_raw_parts(pin_block, pin_block_len),
+        slice::from_raw_parts(enciphered, enciphered_len),
+        slice::from_raw_parts_mut(out, out_len),
+    ))
+}

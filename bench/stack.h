@@ -1,0 +1,13 @@
+/*
+ * How much stack a call takes: it runs on a stack of its own that is painted
+ * beforehand, and what has lost its paint was used.
+ */
+#ifndef BENCH_STACK_H
+#define BENCH_STACK_H
+
+#include <stddef.h>
+
+/* The bytes of stack that `call(of)` takes, its own frame among them. */
+size_t stack_used(void (*call)(void *of), void *of);
+
+#endif
