@@ -4,7 +4,7 @@
 use reference::cases::case::{Call, Case};
 use reference::cases::dice::Dice;
 use reference::cases::tally::Tally;
-use reference::cases::{command_bytes, commands, scarce, Part, MANY_CASES, OF_EACH_ANSWER};
+use reference::cases::{command_bytes, commands, scarce, Demand, Part};
 use std::collections::BTreeSet;
 use std::ops::RangeInclusive;
 use std::sync::OnceLock;
@@ -423,22 +423,23 @@ fn both_calls_judge_alike() {
 /// A file of many cases must hold each answer often; a smaller one need not.
 #[test]
 fn scarce_answers_are_a_fault() {
+    let Demand { many, of_each, calls } = commands::DEMAND;
     let mut tally = Tally::default();
-    assert!(scarce(Part::Commands, MANY_CASES - 1, &tally).is_empty());
-    assert_eq!(scarce(Part::Commands, MANY_CASES, &tally).len(), 11 + 17);
-    for (call, numbers) in commands::ANSWERS {
-        for &number in numbers {
-            (0..OF_EACH_ANSWER).for_each(|_| tally.count(call, number));
+    assert!(scarce(Part::Commands, many - 1, &tally).is_empty());
+    assert_eq!(scarce(Part::Commands, many, &tally).len(), 11 + 17);
+    for &call in calls {
+        for &number in call.answers() {
+            (0..of_each).for_each(|_| tally.count(call, number));
         }
     }
-    assert!(scarce(Part::Commands, MANY_CASES, &tally).is_empty());
+    assert!(scarce(Part::Commands, many, &tally).is_empty());
     let mut short = Tally::default();
-    for (call, numbers) in commands::ANSWERS {
-        for &number in numbers {
+    for &call in calls {
+        for &number in call.answers() {
             let missing = u64::from((call, number) == (Call::Answer, 86));
-            (missing..OF_EACH_ANSWER).for_each(|_| short.count(call, number));
+            (missing..of_each).for_each(|_| short.count(call, number));
         }
     }
-    let lines = scarce(Part::Commands, MANY_CASES, &short);
+    let lines = scarce(Part::Commands, many, &short);
     assert_eq!(lines, ["answer answers 86 499 times, not 500"]);
 }

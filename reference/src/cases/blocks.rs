@@ -4,6 +4,8 @@ use super::case::{Call, Case};
 use super::dice::Dice;
 use super::parts;
 
+pub const CALLS: [Call; 3] = [Call::ReadBlock, Call::WriteBlock, Call::Translate];
+
 /// Everything any of the three calls may take, whole at first.
 struct Draft {
     call: Call,
@@ -17,10 +19,15 @@ struct Draft {
     out: Option<Vec<u8>>,
 }
 
+pub fn case(dice: &mut Dice) -> Case {
+    let call = dice.pick(&CALLS);
+    case_of(dice, call)
+}
+
 /// About half of the cases are left whole; some of the others are damaged twice, so that the
 /// order of judging decides.
-pub fn case(dice: &mut Dice) -> Case {
-    let mut draft = Draft::whole(dice);
+pub fn case_of(dice: &mut Dice, call: Call) -> Case {
+    let mut draft = Draft::whole(dice, call);
     if dice.chance(52) {
         draft.damage(dice);
         if dice.chance(25) {
@@ -31,8 +38,7 @@ pub fn case(dice: &mut Dice) -> Case {
 }
 
 impl Draft {
-    fn whole(dice: &mut Dice) -> Draft {
-        let call = dice.pick(&[Call::ReadBlock, Call::WriteBlock, Call::Translate]);
+    fn whole(dice: &mut Dice, call: Call) -> Draft {
         let settings = parts::lower_settings(dice);
         let (from, to) = formats(dice, settings[1] != 0);
         let pin = parts::pin(dice);

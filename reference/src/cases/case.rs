@@ -23,6 +23,25 @@ pub enum Call {
     Usual = 15,
 }
 
+/// What the C face makes of a number argument: a size, a flag of a byte, or 32 bits.
+#[derive(Clone, Copy, Debug, PartialEq, Eq)]
+pub enum Parameter {
+    Size,
+    Flag,
+    Word,
+}
+
+impl Parameter {
+    /// The largest number that it carries.
+    pub fn most(self) -> u64 {
+        match self {
+            Parameter::Size => u64::MAX,
+            Parameter::Flag => 0xFF,
+            Parameter::Word => 0xFFFF_FFFF,
+        }
+    }
+}
+
 impl Call {
     pub fn code(self) -> u8 {
         self as u8
@@ -45,6 +64,37 @@ impl Call {
             Call::Ask => "ask",
             Call::Answer => "answer",
             Call::Usual => "usual",
+        }
+    }
+
+    /// What its numbers are, in the order of the C face.
+    pub fn parameters(self) -> &'static [Parameter] {
+        use Parameter::{Flag, Size, Word};
+        match self {
+            Call::ValidationBlock | Call::Pvv => &[],
+            Call::ReadBlock | Call::WriteBlock | Call::NaturalPin => &[Word],
+            Call::PvvInput | Call::PvvVerdict => &[Word, Word],
+            Call::Ask | Call::Usual => &[Size, Flag, Flag],
+            Call::OffsetOfDigits | Call::Differences => &[Size, Flag, Flag, Word],
+            Call::Translate | Call::Offset | Call::OffsetVerdict => &[Size, Flag, Flag, Word, Word],
+            Call::Answer => &[Size, Flag, Flag, Flag, Flag],
+        }
+    }
+
+    /// Every number that the call can answer. 01 is a verdict's alone.
+    pub fn answers(self) -> &'static [u32] {
+        match self {
+            Call::ReadBlock | Call::WriteBlock => &[0, 15, 20, 23, 24, 69, 901],
+            Call::Translate | Call::PvvInput => &[0, 15, 20, 23, 24, 69, 901],
+            Call::ValidationBlock | Call::Pvv => &[0, 15, 901],
+            Call::NaturalPin => &[0, 15, 24, 25, 901],
+            Call::Offset => &[0, 15, 20, 23, 24, 25, 69, 81, 901],
+            Call::OffsetOfDigits | Call::Differences => &[0, 15, 20, 24, 81, 901],
+            Call::OffsetVerdict => &[0, 1, 15, 20, 23, 24, 25, 69, 81],
+            Call::PvvVerdict => &[0, 1, 15, 20, 23, 24, 69],
+            Call::Ask => &[0, 3, 15, 23, 25, 26, 29, 68, 69, 901, 902],
+            Call::Answer => &[0, 3, 10, 11, 15, 20, 23, 24, 25, 26, 29, 68, 69, 81, 86, 901, 902],
+            Call::Usual => &[0],
         }
     }
 

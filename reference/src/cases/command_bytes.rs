@@ -2,6 +2,9 @@
 
 use super::dice::Dice;
 
+/// Those that mean something somewhere in a command.
+pub const CHARACTERS: &[u8] = b"0123456789ABCDEFNPSTUV;%\x19";
+
 /// One field is cut short or has a character too many. The borders are where each field ends; a
 /// field that the command lacks has no length.
 pub fn cut_at_a_field(dice: &mut Dice, borders: &[usize], command: &mut Vec<u8>) {
@@ -58,7 +61,7 @@ pub fn scatter(dice: &mut Dice, header: usize, command: &mut Vec<u8>) {
         2 => {
             let length = dice.below(300);
             command.truncate(header + 2);
-            command.extend(dice.characters(length, b"0123456789ABCDEFNPSTUV;%\x19"));
+            command.extend(dice.characters(length, CHARACTERS));
         }
         3 => {
             let place = dice.below(command.len() + 1);

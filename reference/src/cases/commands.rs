@@ -4,22 +4,27 @@ use super::case::{Call, Case};
 use super::command_bytes;
 use super::dice::Dice;
 use super::draft::Draft;
+use super::Demand;
 use crate::settings::Settings;
 
-/// Every number that each of the two calls can answer. 01 is a verdict's and cannot arise here.
-pub const ANSWERS: [(Call, &[u32]); 2] = [
-    (Call::Ask, &[0, 3, 15, 23, 25, 26, 29, 68, 69, 901, 902]),
-    (Call::Answer, &[0, 3, 10, 11, 15, 20, 23, 24, 25, 26, 29, 68, 69, 81, 86, 901, 902]),
-];
+pub const CALLS: [Call; 2] = [Call::Ask, Call::Answer];
+
+pub const DEMAND: Demand = Demand { many: 500_000, of_each: 500, calls: &CALLS };
 
 /// The first case of a file asks for the usual settings: that call takes nothing, so that once is
-/// enough. Every other case is a command. More than a third of them are left whole; some of the
-/// damaged ones are damaged twice, so that the order of judging decides.
+/// enough. Every other case is a command.
 pub fn case(dice: &mut Dice, index: u64) -> Case {
     if index == 0 {
         return usual();
     }
-    let mut draft = Draft::whole(dice);
+    let call = if dice.chance(30) { Call::Ask } else { Call::Answer };
+    case_of(dice, call)
+}
+
+/// More than a third of the commands are left whole; some of the damaged ones are damaged twice,
+/// so that the order of judging decides.
+pub fn case_of(dice: &mut Dice, call: Call) -> Case {
+    let mut draft = Draft::whole(dice, call);
     match dice.below(100) {
         0..=35 => draft.into_case(),
         36..=72 => {
@@ -40,7 +45,7 @@ pub fn case(dice: &mut Dice, index: u64) -> Case {
 }
 
 /// Its numbers are the settings that the call must hand back.
-fn usual() -> Case {
+pub fn usual() -> Case {
     let Settings { header, restricted, variable } = Settings::usual();
     let numbers = vec![header as u64, u64::from(restricted), u64::from(variable)];
     Case { call: Call::Usual, numbers, runs: vec![], out: None }

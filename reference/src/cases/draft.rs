@@ -40,8 +40,7 @@ pub struct Draft {
 
 impl Draft {
     /// A command that either call answers with 00; rarely its PIN is on the weak list by chance.
-    pub fn whole(dice: &mut Dice) -> Draft {
-        let call = if dice.chance(30) { Call::Ask } else { Call::Answer };
+    pub fn whole(dice: &mut Dice, call: Call) -> Draft {
         let header = if dice.chance(30) { 4 } else { dice.below(17) };
         let settings = [header as u64, flag(dice), flag(dice)];
         let allowed: &[u64] = if settings[1] != 0 { &[1, 47] } else { &parts::BUILT_CODES };

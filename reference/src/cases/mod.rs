@@ -9,8 +9,10 @@ pub mod dice;
 pub mod draft;
 pub mod file;
 pub mod keys;
+pub mod mutation;
 pub mod offsets;
 pub mod parts;
+pub mod soak;
 pub mod tally;
 pub mod validation;
 pub mod weak;
@@ -21,9 +23,12 @@ use file::CaseFile;
 use std::io;
 use tally::Tally;
 
-/// From this many cases on a file must hold each answer this many times.
-pub const MANY_CASES: u64 = 500_000;
-pub const OF_EACH_ANSWER: u64 = 500;
+/// What a file of many cases must hold: each answer of each of the calls, so many times.
+pub struct Demand {
+    pub many: u64,
+    pub of_each: u64,
+    pub calls: &'static [Call],
+}
 
 /// The parts of the box that a case file may speak of.
 #[derive(Clone, Copy, Debug, PartialEq, Eq)]
@@ -31,6 +36,7 @@ pub enum Part {
     Blocks,
     Offsets,
     Commands,
+    Soak,
 }
 
 impl Part {
@@ -39,15 +45,16 @@ impl Part {
             "blocks" => Some(Part::Blocks),
             "offsets" => Some(Part::Offsets),
             "commands" => Some(Part::Commands),
+            "soak" => Some(Part::Soak),
             _ => None,
         }
     }
 
-    /// The numbers that each call of the part must be seen to answer in a file of many cases.
-    fn answers(self) -> &'static [(Call, &'static [u32])] {
+    pub fn demand(self) -> Option<Demand> {
         match self {
-            Part::Blocks | Part::Offsets => &[],
-            Part::Commands => &commands::ANSWERS,
+            Part::Blocks | Part::Offsets => None,
+            Part::Commands => Some(commands::DEMAND),
+            Part::Soak => Some(soak::DEMAND),
         }
     }
 
@@ -57,6 +64,7 @@ impl Part {
             Part::Blocks => blocks::case(dice),
             Part::Offsets => offsets::case(dice),
             Part::Commands => commands::case(dice, index),
+            Part::Soak => soak::case(dice, index),
         }
     }
 }
@@ -89,18 +97,18 @@ fn write(part: Part, path: &str, seed: u64, count: u64) -> io::Result<Tally> {
 
 /// What the tally of a file of many cases lacks, a line for each answer.
 pub fn scarce(part: Part, count: u64, tally: &Tally) -> Vec<String> {
-    let mut lines = vec![];
-    if count < MANY_CASES {
-        return lines;
-    }
-    for &(call, numbers) in part.answers() {
-        for &number in numbers {
-            let met = tally.of_call_and_number(call, number);
-            if met < OF_EACH_ANSWER {
-                let name = call.name();
-                lines.push(format!("{name} answers {number:02} {met} times, not {OF_EACH_ANSWER}"));
-            }
-        }
-    }
-    lines
+    let Some(demand) = part.demand().filter(|demand| count >= demand.many) else {
+        return vec![];
+    };
+    let answers = demand
+        .calls
+        .iter()
+        .flat_map(|&call| call.answers().iter().map(move |&number| (call, number)));
+    answers
+        .filter_map(|(call, number)| {
+            let (met, due) = (tally.of_call_and_number(call, number), demand.of_each);
+            (met < due)
+                .then(|| format!("{} answers {number:02} {met} times, not {due}", call.name()))
+        })
+        .collect()
 }

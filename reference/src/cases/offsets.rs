@@ -6,7 +6,7 @@ use super::parts;
 use super::validation;
 use crate::settings::Settings;
 
-const CALLS: [Call; 9] = [
+pub const CALLS: [Call; 9] = [
     Call::ValidationBlock,
     Call::NaturalPin,
     Call::Offset,
@@ -68,8 +68,13 @@ struct Draft {
 }
 
 pub fn case(dice: &mut Dice) -> Case {
-    let mut draft = Draft::whole(dice);
-    let ways = ways_to_damage(draft.call);
+    let call = dice.pick(&CALLS);
+    case_of(dice, call)
+}
+
+pub fn case_of(dice: &mut Dice, call: Call) -> Case {
+    let mut draft = Draft::whole(dice, call);
+    let ways = ways_to_damage(call);
     if dice.chance(52) {
         draft.damage(dice, ways);
         if dice.chance(25) {
@@ -114,8 +119,7 @@ fn ways_to_damage(call: Call) -> &'static [Damage] {
 }
 
 impl Draft {
-    fn whole(dice: &mut Dice) -> Draft {
-        let call = dice.pick(&CALLS);
+    fn whole(dice: &mut Dice, call: Call) -> Draft {
         let settings = parts::lower_settings(dice);
         let format = dice.pick(&parts::BUILT_CODES);
         let pin = parts::pin(dice);
