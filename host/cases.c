@@ -6,6 +6,13 @@
 
 #include "lent.h"
 
+/* No case takes more: its runs, its output before and after, and far fewer
+ * other bytes than a run has. */
+#define CASE_MOST ((CASE_RUNS + 3) * (size_t)LENT_MOST)
+
+/* A few of the longest cases, and thousands of the usual ones. */
+#define WINDOW (4 * CASE_MOST)
+
 static const char mark[8] = { 'Q', 'G', 'C', 'A', 'S', 'E', 'S', '1' };
 
 /* The first fault is the one that is told. */
@@ -137,10 +144,24 @@ static bool take_trailer(struct case_file *file)
 	return true;
 }
 
+/* Has the window hold a whole case, or all that is left of the file. */
+static bool move_window(struct case_file *file)
+{
+	size_t left = file->len - file->at;
+
+	if (file->ended || left >= CASE_MOST)
+		return true;
+	memmove(file->bytes, file->bytes + file->at, left);
+	file->at = 0;
+	file->len = left + fread(file->bytes + left, 1, WINDOW - left, file->stream);
+	file->ended = file->len < WINDOW;
+	return !ferror(file->stream) || refuse(file, "the file cannot be read");
+}
+
 bool cases_next(struct case_file *file, struct call_case *one)
 {
 	memset(one, 0, sizeof *one);
-	if (file->fault != NULL || !take_u8(file, &one->code))
+	if (file->fault != NULL || !move_window(file) || !take_u8(file, &one->code))
 		return false;
 	if (one->code == 0) {
 		take_trailer(file);
@@ -153,39 +174,16 @@ bool cases_next(struct case_file *file, struct call_case *one)
 	return true;
 }
 
-/* The length of an open file, or -1; leaves it at its beginning. */
-static long length_of(FILE *stream)
-{
-	if (fseek(stream, 0, SEEK_END) != 0)
-		return -1;
-	long len = ftell(stream);
-	return fseek(stream, 0, SEEK_SET) == 0 ? len : -1;
-}
-
-static bool load(struct case_file *file, FILE *stream)
-{
-	long len = length_of(stream);
-
-	if (len < 0)
-		return refuse(file, "the file's length cannot be found");
-	file->len = (size_t)len;
-	file->bytes = malloc(file->len + 1);
-	if (file->bytes == NULL)
-		return refuse(file, "there is no memory for the file");
-	if (fread(file->bytes, 1, file->len, stream) != file->len)
-		return refuse(file, "the file cannot be read");
-	return true;
-}
-
 bool cases_open(struct case_file *file, const char *path)
 {
 	memset(file, 0, sizeof *file);
-	FILE *stream = fopen(path, "rb");
-	if (stream == NULL)
+	file->stream = fopen(path, "rb");
+	if (file->stream == NULL)
 		return refuse(file, "the file cannot be opened");
-	bool loaded = load(file, stream);
-	fclose(stream);
-	if (!loaded)
+	file->bytes = malloc(WINDOW);
+	if (file->bytes == NULL)
+		return refuse(file, "there is no memory for the file");
+	if (!move_window(file))
 		return false;
 	const uint8_t *begin = take(file, sizeof mark);
 	if (begin == NULL || memcmp(begin, mark, sizeof mark) != 0) {
@@ -197,6 +195,9 @@ bool cases_open(struct case_file *file, const char *path)
 
 void cases_close(struct case_file *file)
 {
+	if (file->stream != NULL)
+		fclose(file->stream);
 	free(file->bytes);
+	file->stream = NULL;
 	file->bytes = NULL;
 }

@@ -22,6 +22,7 @@
 #include <stdbool.h>
 #include <stddef.h>
 #include <stdint.h>
+#include <stdio.h>
 
 /* More numbers, or more runs, than any call of the C face has. */
 #define CASE_NUMBERS 8
@@ -45,19 +46,23 @@ struct call_case {
 	uint32_t written;
 };
 
+/* Of the file a window is in memory, which moves on from case to case: a file
+ * may be a pipe, and longer than the memory. */
 struct case_file {
-	uint8_t *bytes;
-	size_t len;
-	size_t at;
+	FILE *stream;
+	uint8_t *bytes;     /* the window */
+	size_t len;         /* how much of it is filled */
+	size_t at;          /* how much of that is read */
+	bool ended;         /* nothing of the file stands behind the window */
 	uint64_t count;     /* cases read so far */
 	const char *fault;  /* what is wrong with the file, or NULL */
 };
 
-/* Takes a file into memory and reads its header. False: `fault` says why. */
+/* Opens a file or a pipe and reads its header. False: `fault` says why. */
 bool cases_open(struct case_file *file, const char *path);
 
 /* Reads the next case. False at the trailer and at a fault. The case's runs
- * point into the file's memory. */
+ * point into the window and hold until the next is read. */
 bool cases_next(struct case_file *file, struct call_case *one);
 
 void cases_close(struct case_file *file);
