@@ -1,5 +1,5 @@
 # Short names for the steps of the gate. What each does stands in .ci/step.
-.PHONY: check setup prove archive host vectors compare compare-offsets compare-commands lessons lab example install installed uninstall bench soak header reference fmt clean
+.PHONY: check setup prove archive host vectors compare compare-offsets compare-commands lessons lab example install installed uninstall clean-c bench soak header reference fmt clean
 
 check:
 	.ci/run
@@ -16,7 +16,7 @@ archive header reference: setup
 host example install installed: archive
 	.ci/step $@
 
-vectors compare compare-offsets compare-commands lessons lab: host
+vectors compare compare-offsets compare-commands lessons lab clean-c: host
 	.ci/step $@
 
 # outside the gate; COUNT and SEED may be given: make soak COUNT=2800000 SEED=1

@@ -182,7 +182,7 @@ const struct call *call_of(uint8_t code)
 	return NULL;
 }
 
-size_t call_numbers(const struct call *call)
+static size_t call_numbers(const struct call *call)
 {
 	size_t n = 0;
 

@@ -44,7 +44,6 @@ extern const size_t calls_len;
 /* The call with a code, or NULL. */
 const struct call *call_of(uint8_t code);
 
-size_t call_numbers(const struct call *call);
 size_t call_runs(const struct call *call);
 
 /* Whether a case has what the call is handed: as many numbers, each within its

@@ -9,15 +9,24 @@
 /* What the lent output holds before a call. */
 #define UNTOUCHED 0xA5
 
+/* Bytes behind the lent output, where a call has no business. */
+#define MARGIN 16
+
 #define SENT(e) (e)->command, (e)->command_len
 
-void player_ask(const struct script_exchange *e, struct player_outcome *outcome)
+/* What a call did. */
+struct outcome {
+	qg_reply reply;
+	uint8_t out[SCRIPT_ROOM + MARGIN];
+};
+
+static void ask(const struct script_exchange *e, struct outcome *outcome)
 {
 	memset(outcome->out, UNTOUCHED, sizeof outcome->out);
 	outcome->reply = qg_ask(e->settings, SENT(e), outcome->out, e->room);
 }
 
-void player_answer(const struct script_exchange *e, struct player_outcome *outcome)
+static void answer(const struct script_exchange *e, struct outcome *outcome)
 {
 	memset(outcome->out, UNTOUCHED, sizeof outcome->out);
 	outcome->reply = qg_answer(e->settings, e->pin_key_parity_good,
@@ -27,7 +36,7 @@ void player_answer(const struct script_exchange *e, struct player_outcome *outco
 
 /* How many bytes can be shown: a call that counts more than it was lent is
  * not believed. */
-static size_t shown(const struct player_outcome *outcome)
+static size_t shown(const struct outcome *outcome)
 {
 	return outcome->reply.written <= SCRIPT_ROOM ? outcome->reply.written : SCRIPT_ROOM;
 }
@@ -46,7 +55,7 @@ static void show_slice(const char *name, const struct script_slice *slice)
 	putchar('\n');
 }
 
-static void show_outcome(const char *name, const struct player_outcome *outcome,
+static void show_outcome(const char *name, const struct outcome *outcome,
 	void (*show)(FILE *stream, const uint8_t *bytes, size_t len))
 {
 	printf("  %-11s %02u, %s\n", name, (unsigned)outcome->reply.number,
@@ -114,7 +123,7 @@ static bool hold_length(const char *name, uint32_t got, size_t expected)
 
 /* Whether the output is the expected bytes and behind them untouched. The first
  * byte that is not is told. */
-static bool hold_bytes(const char *name, const struct player_outcome *outcome,
+static bool hold_bytes(const char *name, const struct outcome *outcome,
 	const struct script_expected *expected)
 {
 	for (size_t i = 0; i < sizeof outcome->out; i++) {
@@ -135,7 +144,7 @@ static bool hold_bytes(const char *name, const struct player_outcome *outcome,
 	return true;
 }
 
-static bool hold(const char *name, const struct player_outcome *outcome,
+static bool hold(const char *name, const struct outcome *outcome,
 	const struct script_expected *expected)
 {
 	bool number = hold_number(name, outcome->reply.number, expected->number);
@@ -157,10 +166,10 @@ static void show_expected(const char *name, const struct script_expected *expect
 
 bool player_play(const struct script_exchange *e)
 {
-	struct player_outcome asked, answered;
+	struct outcome asked, answered;
 
-	player_ask(e, &asked);
-	player_answer(e, &answered);
+	ask(e, &asked);
+	answer(e, &answered);
 	show_handed(e);
 	show_outcome("asks", &asked, text_show_hex);
 	show_key_box(e);
@@ -177,9 +186,9 @@ bool player_play(const struct script_exchange *e)
 
 void player_write_asked(const struct script_exchange *e)
 {
-	struct player_outcome asked;
+	struct outcome asked;
 
-	player_ask(e, &asked);
+	ask(e, &asked);
 	if (asked.reply.number == 0)
 		text_show_hex(stdout, asked.out, shown(&asked));
 	else
@@ -188,9 +197,9 @@ void player_write_asked(const struct script_exchange *e)
 
 void player_write_answered(const struct script_exchange *e)
 {
-	struct player_outcome answered;
+	struct outcome answered;
 
-	player_answer(e, &answered);
+	answer(e, &answered);
 	if (answered.reply.written > 0)
 		text_show(stdout, answered.out, shown(&answered));
 	else

@@ -7,18 +7,6 @@
 
 #include "script.h"
 
-/* Bytes behind the lent output, where a call has no business. */
-#define PLAYER_MARGIN 16
-
-/* What a call did. */
-struct player_outcome {
-	qg_reply reply;
-	uint8_t out[SCRIPT_ROOM + PLAYER_MARGIN];
-};
-
-void player_ask(const struct script_exchange *e, struct player_outcome *outcome);
-void player_answer(const struct script_exchange *e, struct player_outcome *outcome);
-
 /* Makes both calls and prints the exchange. True where it went as expected. */
 bool player_play(const struct script_exchange *e);
 
