@@ -14,6 +14,8 @@ frame-once = record {
 pub fields-once : FieldsSettled
 fields-once = record {
   Value·refusal = λ self. settled;
+  fault-at = λ refusal field cursor. settled;
+  no-fault = settled;
   two-digits = λ tens ones. settled;
   Cursor·run = λ self command n class missing wrong. settled;
   Cursor·number = λ self command low high wrong. settled;

@@ -13,10 +13,11 @@ use Rattle.numbers.specs.declared.Refusal.{Refusal}
 use Rattle.settings.specs.declared.Settings.{Settings}
 use Rattle.blocks.specs.Answers.{blockOf}
 use Rattle.frame.specs.Frame.{codeOf, isFramed, opening}
-use Rattle.fields.specs.Answers.{valueFrom, markFrom}
+use Rattle.fields.specs.Answers.{valueFrom, markFrom, noFault}
 use Rattle.fields.specs.Fields.{run, number, marked, trailer}
 use Rattle.fields.specs.declared.Value.{Value}
 use Rattle.fields.specs.declared.Cursor.{Cursor}
+use Rattle.fields.specs.declared.Fault.{Fault}
 use Rattle.keys.specs.Keys.{present, agree, keyType, key, lmkField}
 use Rattle.keys.specs.Answers.{typedFrom, keyedFrom}
 use Rattle.keys.specs.declared.Keyed.{Keyed}
@@ -59,6 +60,8 @@ pub record FrameSettled : Type 0 where
 -- every public function of fields
 pub record FieldsSettled : Type 0 where
   pub Value·refusal : (self : Value) → Settled (value.refusalIn self)
+  pub fault-at : (refusal : Refusal) (field : ℕ) (cursor : Cursor) → Settled {A = Fault} (record { refusal = refusal; field = field; place = cursor .at })
+  pub no-fault : Settled noFault
   pub two-digits : (tens ones : ℕ) → Settled (valueOf tens * 10 + valueOf ones)
   pub Cursor·run : (self : Cursor) (command : List ℕ) (n : ℕ) (class : Class) (missing wrong : Refusal) → Settled (valueFrom (self .at) (run class missing wrong n (drop (self .at) command)))
   pub Cursor·number : (self : Cursor) (command : List ℕ) (low high : ℕ) (wrong : Refusal) → Settled (valueFrom (self .at) (number low high wrong (drop (self .at) command)))

@@ -6,6 +6,7 @@ use Rattle.numbers.specs.declared.Refusal.{Refusal}
 use Rattle.numbers.specs.declared.Refusal.the-variants.{Field15}
 use Rattle.fields.specs.Fields.{Found}
 use Rattle.fields.specs.declared.Cursor.{Cursor}
+use Rattle.fields.specs.declared.Fault.{Fault}
 use Rattle.fields.specs.declared.Value.{Value}
 use Rattle.fields.specs.declared.Value.the-variants.{Got, Bad}
 use Rattle.fields.specs.declared.Mark.{Mark}
@@ -28,3 +29,7 @@ refusalIn (Bad q) = q
 -- the cursor behind a mark, where the mark is
 abbrev pub markFrom : ℕ → Bool → Mark
 markFrom at there = cond there (Behind (cursorAt (at + 1))) Absent
+
+-- the fault that a converter gives where it is asked of what was read; nothing asks that
+abbrev pub noFault : Fault
+noFault = record { refusal = Field15; field = 0; place = 0 }

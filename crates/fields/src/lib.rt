@@ -4,7 +4,7 @@ ghost use Prim.Native.Nat.{_+_, _-_, _*_, _≤_};
 ghost use lib.ListN.{length, take, drop};
 ghost use Rattle.alphabet.specs.Alphabet.{allOf, valueOf};
 ghost use Rattle.fields.specs.Fields.{run, number, marked, trailer};
-ghost use Rattle.fields.specs.Answers.{valueFrom, refusalIn, markFrom};
+ghost use Rattle.fields.specs.Answers.{valueFrom, refusalIn, markFrom, noFault};
 use alphabet::Class;
 use numbers::Refusal;
 
@@ -46,6 +46,24 @@ impl Value {
             Value::Bad(q) => q,
         }
     }
+}
+
+// The fault of a field that begins at the cursor.
+pub fn fault_at(refusal: Refusal, field: usize, cursor: Cursor) -> Fault
+    ensures { λ r. ⌜ r ≡ record { refusal = refusal; field = field; place = cursor .at } ⌝ }
+{
+    Fault {
+        refusal,
+        field,
+        place: cursor.at,
+    }
+}
+
+// The fault that a stage's `fault` gives where it is asked of what was read.
+pub fn no_fault() -> Fault
+    ensures { λ r. ⌜ r ≡ noFault ⌝ }
+{
+    fault_at(Refusal::Field15, 0, Cursor { at: 0 })
 }
 
 // Whether the n characters from a place on are of a class.

@@ -7,7 +7,7 @@ use Rattle.numbers.specs.declared.Refusal.the-variants.{Field15, NotHere69}
 use Rattle.nibbles.specs.Nibbles.{word}
 use Rattle.formats.specs.declared.Format.{Format}
 use Rattle.fields.specs.Fields.{Found, Stage, read, faulty}
-use Rattle.fields.specs.Answers.{cursorAt}
+use Rattle.fields.specs.Answers.{cursorAt, noFault}
 use Rattle.fields.specs.declared.Fault.{Fault}
 use Rattle.weak.specs.declared.Weak.{Weak}
 use Rattle.stages.specs.declared.Keys.{Keys}
@@ -28,10 +28,6 @@ use Rattle.stages.specs.declared.End.{End}
 use Rattle.stages.specs.declared.End.the-variants as end
 use Rattle.stages.specs.declared.BoxRead.{BoxRead}
 use Rattle.stages.specs.declared.BoxRead.the-variants as boxed
-
--- the fault that a converter gives where it is asked of what was read; nothing asks that
-abbrev pub noFault : Fault
-noFault = record { refusal = Field15; field = 0; place = 0 }
 
 -- ---- what a stage came to
 

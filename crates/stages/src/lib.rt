@@ -94,7 +94,7 @@ impl KeysRead {
         ensures { λ r. ⌜ r ≡ keysFault self ⌝ }
     {
         match self {
-            KeysRead::Got(_, _) => no_fault(),
+            KeysRead::Got(_, _) => fields::no_fault(),
             KeysRead::Bad(fault) => fault,
         }
     }
@@ -105,7 +105,7 @@ impl SealedRead {
         ensures { λ r. ⌜ r ≡ sealedFault self ⌝ }
     {
         match self {
-            SealedRead::Got(_, _) => no_fault(),
+            SealedRead::Got(_, _) => fields::no_fault(),
             SealedRead::Bad(fault) => fault,
         }
     }
@@ -116,7 +116,7 @@ impl OffsettingRead {
         ensures { λ r. ⌜ r ≡ offsettingFault self ⌝ }
     {
         match self {
-            OffsettingRead::Got(_, _) => no_fault(),
+            OffsettingRead::Got(_, _) => fields::no_fault(),
             OffsettingRead::Bad(fault) => fault,
         }
     }
@@ -127,7 +127,7 @@ impl WeakStage {
         ensures { λ r. ⌜ r ≡ weakFault self ⌝ }
     {
         match self {
-            WeakStage::Got(_, _) => no_fault(),
+            WeakStage::Got(_, _) => fields::no_fault(),
             WeakStage::Bad(fault) => fault,
         }
     }
@@ -138,7 +138,7 @@ impl End {
         ensures { λ r. ⌜ r ≡ endFault self ⌝ }
     {
         match self {
-            End::At(_) => no_fault(),
+            End::At(_) => fields::no_fault(),
             End::Bad(fault) => fault,
         }
     }
@@ -166,23 +166,6 @@ impl BoxRead {
     }
 }
 
-fn no_fault() -> Fault
-    ensures { λ r. ⌜ r ≡ Rattle.stages.specs.Answers.noFault ⌝ }
-{
-    fault_at(Refusal::Field15, 0, Cursor { at: 0 })
-}
-
-// The fault of a field that begins at the cursor.
-fn fault_at(refusal: Refusal, field: usize, cursor: Cursor) -> Fault
-    ensures { λ r. ⌜ r ≡ record { refusal = refusal; field = field; place = cursor .at } ⌝ }
-{
-    Fault {
-        refusal,
-        field,
-        place: cursor.at,
-    }
-}
-
 // Key type and two keys.
 pub fn read_keys(command: &[u8], start: Cursor, field: usize, first: Use, second: Use) -> KeysRead
     requires { ⌜ field ≤ 64 ⌝ }
@@ -190,15 +173,15 @@ pub fn read_keys(command: &[u8], start: Cursor, field: usize, first: Use, second
 {
     let typed = keys::key_type(start, command);
     let Typed::Got(letters, at_first) = typed else {
-        return KeysRead::Bad(fault_at(Refusal::Field15, field, start));
+        return KeysRead::Bad(fields::fault_at(Refusal::Field15, field, start));
     };
     let one = keys::key_field(at_first, command, letters, first);
     let Keyed::Got(first_id, at_second) = one else {
-        return KeysRead::Bad(fault_at(one.refusal(), field + 1, at_first));
+        return KeysRead::Bad(fields::fault_at(one.refusal(), field + 1, at_first));
     };
     let other = keys::key_field(at_second, command, letters, second);
     let Keyed::Got(second_id, next) = other else {
-        return KeysRead::Bad(fault_at(other.refusal(), field + 2, at_second));
+        return KeysRead::Bad(fields::fault_at(other.refusal(), field + 2, at_second));
     };
     let keys = Keys {
         first: first_id,
@@ -250,11 +233,11 @@ pub fn read_sealed(command: &[u8], block: Cursor, field: usize, restricted: bool
         Refusal::Field15,
     );
     let Value::Got(_, at_format) = digits else {
-        return SealedRead::Bad(fault_at(Refusal::Field15, field, block));
+        return SealedRead::Bad(fields::fault_at(Refusal::Field15, field, block));
     };
     let chosen = format_field(at_format, command, restricted);
     let FormatRead::Got(format, next) = chosen else {
-        return SealedRead::Bad(fault_at(chosen.refusal(), field + 1, at_format));
+        return SealedRead::Bad(fields::fault_at(chosen.refusal(), field + 1, at_format));
     };
     let sealed = Sealed {
         block: block.at,
@@ -298,19 +281,19 @@ pub fn read_offsetting(command: &[u8], start: Cursor, field: usize) -> Offsettin
     let short = Refusal::Field15;
     let checked = start.number(command, 4, 12, short);
     let Value::Got(check, account) = checked else {
-        return OffsettingRead::Bad(fault_at(Refusal::Field15, field, start));
+        return OffsettingRead::Bad(fields::fault_at(Refusal::Field15, field, start));
     };
     let digits = account.run(command, 12, Class::Digit, short, short);
     let Value::Got(_, table) = digits else {
-        return OffsettingRead::Bad(fault_at(Refusal::Field15, field + 1, account));
+        return OffsettingRead::Bad(fields::fault_at(Refusal::Field15, field + 1, account));
     };
     let decimals = table.run(command, 16, Class::Digit, short, Refusal::Table25);
     let Value::Got(_, validation) = decimals else {
-        return OffsettingRead::Bad(fault_at(decimals.refusal(), field + 2, table));
+        return OffsettingRead::Bad(fields::fault_at(decimals.refusal(), field + 2, table));
     };
     let shaped = validation_field(validation, command);
     let Value::Got(width, next) = shaped else {
-        return OffsettingRead::Bad(fault_at(shaped.refusal(), field + 3, validation));
+        return OffsettingRead::Bad(fields::fault_at(shaped.refusal(), field + 3, validation));
     };
     let offsetting = Offsetting {
         check,
@@ -328,7 +311,7 @@ pub fn read_weak(command: &[u8], start: Cursor, field: usize, mark: u8) -> WeakS
 {
     let listed = weak::weak_field(start, command, mark);
     let WeakRead::Got(weak, next) = listed else {
-        return WeakStage::Bad(fault_at(listed.refusal(), field, start));
+        return WeakStage::Bad(fields::fault_at(listed.refusal(), field, start));
     };
     WeakStage::Got(weak, next)
 }
@@ -353,9 +336,9 @@ fn last_id(keys: Keys, own: Lmk, field: usize, start: Cursor) -> Fault
     ensures { λ r. ⌜ r ≡ lastId keys own field (start .at) ⌝ }
 {
     if own.is_present() {
-        return fault_at(Refusal::Field15, field, start);
+        return fields::fault_at(Refusal::Field15, field, start);
     }
-    fault_at(Refusal::Field15, keys.field, Cursor { at: keys.place })
+    fields::fault_at(Refusal::Field15, keys.field, Cursor { at: keys.place })
 }
 
 // LMK id and trailer; then nothing is left over, and the ids agree.
@@ -365,14 +348,14 @@ pub fn read_end(command: &[u8], start: Cursor, field: usize, keys: Keys) -> End
 {
     let named = keys::lmk_field(start, command);
     let Keyed::Got(own, mark) = named else {
-        return End::Bad(fault_at(named.refusal(), field, start));
+        return End::Bad(fields::fault_at(named.refusal(), field, start));
     };
     let trailing = mark.trailer(command);
     let Value::Got(_, past) = trailing else {
-        return End::Bad(fault_at(trailing.refusal(), field + 1, mark));
+        return End::Bad(fields::fault_at(trailing.refusal(), field + 1, mark));
     };
     if past.at < command.len() {
-        return End::Bad(fault_at(Refusal::Field15, 0, past));
+        return End::Bad(fields::fault_at(Refusal::Field15, 0, past));
     }
     if !all_agree(keys, own) {
         return End::Bad(last_id(keys, own, field, start));
