@@ -1,31 +1,27 @@
 -- What the two calls come to, answer by answer.
 -- Assumes nothing.
 use Prim.Native.Nat.{ℕ}
-use native.Mathlib.Omega.{arith}
-use mathlib.Core.Path.{_≡_, refl, sym, ap, ap₂, _∙_, subst}
+use mathlib.Core.Path.{_≡_, ap}
 use mathlib.Core.List.{List}
 use mathlib.Core.Bool.{Bool}
 use Rattle.nibbles.specs.Nibbles.{word, row}
 use Rattle.nibbles.proofs.Laws.{Below}
-use Rattle.numbers.specs.Numbers.{Outcome, done, refused, unless}
+use Rattle.numbers.specs.Numbers.{refused}
 use Rattle.numbers.specs.declared.Refusal.{Refusal}
-use Rattle.numbers.specs.declared.Refusal.the-variants.{PinKeyParity10, PvkParity11}
-use Rattle.numbers.proofs.Laws.{then-done, passed}
 use Rattle.settings.specs.declared.Settings.{Settings}
-use Rattle.pins.specs.Pins.{sized}
 use Rattle.pins.specs.Answers.{readingOf, rowOf}
 use Rattle.pins.specs.declared.Pin.{Pin}
 use Rattle.pins.specs.declared.Reading.the-variants as reading
 use Rattle.pins.proofs.Laws.{reading-got, reading-bad}
 use Rattle.blocks.specs.Answers.{blockOf}
-use Rattle.blocks.proofs.Laws.{bytes-sixteen, sixteen-word}
 use Rattle.validation.specs.Validation.{validationRow}
 use Rattle.validation.proofs.Laws.{row-sixteen, row-block}
+use Rattle.keybox.specs.KeyBox.{boxed}
+use Rattle.keybox.specs.Answers.{boxRead}
+use Rattle.keybox.specs.declared.Boxed.{Boxed}
+use Rattle.keybox.specs.declared.BoxRead.the-variants as box-read
+use Rattle.keybox.proofs.Laws.{box-found, box-bad}
 use Rattle.fields.specs.declared.Fault.{Fault}
-use Rattle.stages.specs.Stages.{boxed}
-use Rattle.stages.specs.Answers.{boxRead}
-use Rattle.stages.specs.declared.Boxed.{Boxed}
-use Rattle.stages.specs.declared.BoxRead.the-variants as box-read
 use Rattle.bk.proofs.Laws.{values-length, values-below, values-row}
 use Rattle.bk.proofs.Places.{placed}
 use Rattle.bk.proofs.Reading.{fields-found, fields-bad}
@@ -58,35 +54,6 @@ module _ (settings : Settings) (s : List ℕ) (at : ℕ) where
       rw (fields-found (bkFields (settings .restricted) s at) p e .1, values-row s from 12 inside account a)
       (row-block (validationRow (accountIn s p) (validationIn s p))
       (λ ns. row-sixteen (accountIn s p) (validationIn s p) ns (values-length s from 12 inside) (values-below s from 12 inside)))
-
--- ---- behind the key box's answer
-
-module _ (g h : Bool) (block enciphered : List ℕ) (small : Below 256 block) (little : Below 256 enciphered) where
-  -- the words of the rows that were answered hold them
-  box-back : (rows : List ℕ × List ℕ) → boxed g h block enciphered ≡ done rows → (row 16 (word (rows .0)), row 16 (word (rows .1))) ≡ rows
-  unfolding boxed
-  box-back rows e =
-      let x = then-done (sized 8 block) _ rows e in
-      let y = then-done (sized 8 enciphered) _ rows (x .2) in
-      let k = then-done (unless PinKeyParity10 g (y .0)) _ rows (y .2) in
-      subst (λ (r : List ℕ × List ℕ). (row 16 (word (r .0)), row 16 (word (r .1))) ≡ r) (passed PvkParity11 h (x .0, y .0) rows (k .2) .1)
-      (ap₂ (λ (ns es : List ℕ). (ns, es)) (sixteen-word (x .0) (bytes-sixteen block (x .0) small (x .1))) (sixteen-word (y .0) (bytes-sixteen enciphered (y .0) little (y .1))))
-
-  -- and the code holds those words
-  pub box-found : (b : Boxed) → box-read.Got b ≡ boxRead (boxed g h block enciphered) → boxed g h block enciphered ≡ done (row 16 (b .block), row 16 (b .enciphered))
-  box-found b e = go (boxed g h block enciphered) e box-back
-    where
-      go :
-          (o : Outcome (List ℕ × List ℕ)) → box-read.Got b ≡ boxRead o → ((rows : List ℕ × List ℕ) → o ≡ done rows → (row 16 (word (rows .0)), row 16 (word (rows .1))) ≡ rows)
-          → o ≡ done (row 16 (b .block), row 16 (b .enciphered))
-      go (done rows) d back =
-          let q : record { block = word (rows .0); enciphered = word (rows .1) } ≡ b = cc in
-          ap done (sym (back rows refl)) ∙ ap (λ (x : Boxed). done (row 16 (x .block), row 16 (x .enciphered))) q
-      go (refused r) d back = absurd (let z : _≡_ {A = ℕ} 0 1 = cc in omega arith)
-
-pub box-bad : (o : Outcome (List ℕ × List ℕ)) (q : Refusal) → box-read.Bad q ≡ boxRead o → o ≡ refused q
-box-bad (done rows) q e = absurd (let z : _≡_ {A = ℕ} 0 1 = cc in omega arith)
-box-bad (refused r) q e = cc
 
 -- ---- the answering call
 

@@ -7,13 +7,13 @@ use mathlib.Core.List.{List}
 use mathlib.Core.Bool.{Bool, true, not}
 use lib.ListN.{length, length-map, length-drop}
 use Rattle.nibbles.specs.Nibbles.{packs, every}
-use Rattle.nibbles.proofs.Laws.{Below, below-every, nibs-length}
-use Rattle.numbers.specs.Numbers.{done, unless}
-use Rattle.numbers.specs.declared.Refusal.the-variants.{PinKeyParity10, PvkParity11, Weak86}
+use Rattle.nibbles.proofs.Laws.{Below, below-every}
+use Rattle.numbers.specs.Numbers.{done}
+use Rattle.numbers.specs.declared.Refusal.the-variants.{Weak86}
 use Rattle.numbers.proofs.Laws.{then-done, passed, value-of}
 use Rattle.settings.specs.declared.Settings.{Settings}
-use Rattle.pins.specs.Pins.{digit, sized}
-use Rattle.pins.proofs.Laws.{digits-below, sized-done}
+use Rattle.pins.specs.Pins.{digit}
+use Rattle.pins.proofs.Laws.{digits-below}
 use Rattle.blocks.proofs.Laws.{Sixteen, sixteen-bytes}
 use Rattle.validation.specs.Validation.{validationRow}
 use Rattle.validation.proofs.Laws.{row-sixteen}
@@ -21,11 +21,13 @@ use Rattle.ibm3624.specs.Ibm3624.{covers, lastOf, covered, offsetOf, moduloTen}
 use Rattle.ibm3624.proofs.Laws.{differences-length, reduced-below}
 use Rattle.offsets.specs.Offsets.{pinWithNatural, offsetFor}
 use Rattle.offsets.proofs.Laws.{with-natural-fit}
+use Rattle.keybox.specs.KeyBox.{boxed}
+use Rattle.keybox.proofs.Laws.{boxed-sixteen}
 use Rattle.fields.specs.Fields.{Stage, read, faulty, onward, outcome}
 use Rattle.keys.specs.declared.Use.the-variants.{PinKey, Pvk}
 use Rattle.weak.specs.Weak.{isOn, weakPins}
 use Rattle.weak.specs.declared.Weak.{Weak}
-use Rattle.stages.specs.Stages.{keys, sealed, offsetting, weak, end, boxed}
+use Rattle.stages.specs.Stages.{keys, sealed, offsetting, weak, end}
 use Rattle.stages.specs.declared.Keys.{Keys}
 use Rattle.stages.specs.declared.Sealed.{Sealed}
 use Rattle.stages.specs.declared.Offsetting.{Offsetting}
@@ -93,19 +95,6 @@ pub asked-eight : (settings : Settings) (s : List ℕ) (at : ℕ) (bytes : List 
 asked-eight settings s at bytes e = let r = asked-row settings s at bytes e in ap length (r .2) ∙ sixteen-bytes (r .0) (r .1)
 
 -- ---- the answering call
-
--- what the key box answered are two rows of sixteen
-boxed-sixteen : (g h : Bool) (block enciphered : List ℕ) (rows : List ℕ × List ℕ) → boxed g h block enciphered ≡ done rows → (length (rows .0) ≡ 16) × (length (rows .1) ≡ 16)
-unfolding boxed
-boxed-sixteen g h block enciphered rows e =
-    let b = then-done (sized 8 block) _ rows e in
-    let c = then-done (sized 8 enciphered) _ rows (b .2) in
-    let k = then-done (unless PinKeyParity10 g (c .0)) _ rows (c .2) in
-    let q = passed PvkParity11 h (b .0, c .0) rows (k .2) .1 in
-    (ap (λ (r : List ℕ × List ℕ). length (r .0)) (sym q) ∙ long block (b .0) (b .1), ap (λ (r : List ℕ × List ℕ). length (r .1)) (sym q) ∙ long enciphered (c .0) (c .1))
-  where
-    long : (bs ns : List ℕ) → sized 8 bs ≡ done ns → length ns ≡ 16
-    long bs ns d = let z = sized-done 8 bs ns d in ap length (sym (z .1)) ∙ nibs-length bs ∙ (let n = z .0 in omega arith)
 
 -- an offset that was made of a PIN and a natural PIN of one length is no longer than the PIN, and has digits
 offset-within :

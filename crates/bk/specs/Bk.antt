@@ -11,10 +11,11 @@ use Rattle.settings.specs.declared.Settings.{Settings}
 use Rattle.validation.specs.Validation.{validationRow}
 use Rattle.ibm3624.specs.Ibm3624.{offsetText}
 use Rattle.offsets.specs.Offsets.{pinWithNatural, offsetFor}
+use Rattle.keybox.specs.KeyBox.{boxed}
 use Rattle.fields.specs.Fields.{Stage, read, onward, outcome}
 use Rattle.keys.specs.declared.Use.the-variants.{PinKey, Pvk}
 use Rattle.weak.specs.Weak.{isOn, weakPins}
-use Rattle.stages.specs.Stages.{keys, sealed, offsetting, weak, end, boxed}
+use Rattle.stages.specs.Stages.{keys, sealed, offsetting, weak, end}
 use Rattle.bk.specs.declared.Bk.{Bk}
 
 -- the weak list's mark: "ours is the semicolon"

@@ -11,6 +11,8 @@ ghost use Rattle.bk.specs.Bk.{bkFields, part, bkAsk, bkFinish, bkAnswer}
 ghost use Rattle.bk.specs.Answers.{bkRead, fieldsRefusal, finishedOf, refusalIn, Placed};
 use fields::Cursor;
 use fields::Fault;
+use keybox::BoxRead;
+use keybox::Boxed;
 use keys::Use;
 use numbers::Refusal;
 use offsets::Comparison;
@@ -19,8 +21,6 @@ use pins::Pin;
 use pins::Reading;
 use pins::Row;
 use settings::Settings;
-use stages::BoxRead;
-use stages::Boxed;
 use stages::End;
 use stages::KeysRead;
 use stages::Offsetting;
@@ -178,7 +178,7 @@ pub fn answer(
     let BkRead::Got(bk) = reread else {
         return Finished::Bad(reread.refusal());
     };
-    let answered = stages::key_box(pinparity, pvkparity, block, enciphered);
+    let answered = keybox::key_box(pinparity, pvkparity, block, enciphered);
     let BoxRead::Got(boxed) = answered else {
         return Finished::Bad(answered.refusal());
     };

@@ -32,7 +32,8 @@ use Rattle.frame.specs.declared.Code.the-variants.{Bk, Other}
 use Rattle.fields.specs.Fields.{Stage, read, faulty, outcome, run, number, trailer}
 use Rattle.keys.specs.Keys.{keyType, hexKey, lettered, key, lmkField}
 use Rattle.weak.specs.Weak.{weakField, entries, isOn}
-use Rattle.stages.specs.Stages.{keys, formatField, sealed, validationWidth, validationField, offsetting, weak, end, boxed}
+use Rattle.keybox.specs.KeyBox.{boxed}
+use Rattle.stages.specs.Stages.{keys, formatField, sealed, validationWidth, validationField, offsetting, weak, end}
 use Rattle.stages.specs.declared.Offsetting.{Offsetting}
 use Rattle.stages.proofs.Laws.{field-read, read-once}
 use Rattle.bk.specs.Bk.{bkFields, accountIn, validationIn, bkAsk, bkFinish, bkAnswer}

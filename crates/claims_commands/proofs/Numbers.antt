@@ -32,7 +32,7 @@ use Rattle.frame.specs.declared.Code.the-variants.{Bk, Other}
 use Rattle.frame.proofs.Laws.{framed-bounds, opening-length}
 use Rattle.fields.specs.Fields.{outcome}
 use Rattle.weak.specs.Weak.{isOn, weakPins}
-use Rattle.stages.specs.Stages.{boxed}
+use Rattle.keybox.specs.KeyBox.{boxed}
 use Rattle.bk.specs.Bk.{bkFields, accountIn, tableIn, validationIn, bkAsk, bkFinish, bkAnswer, bkPayload}
 use Rattle.bk.specs.declared.Bk as fields
 use Rattle.bk.proofs.Places.{Answered, answer-held}

@@ -10,7 +10,7 @@ use Rattle.frame.specs.Frame.{isFramed, codeOf}
 use Rattle.frame.specs.declared.Code.the-variants as code
 use Rattle.offsets.specs.Offsets.{pinWithNatural}
 use Rattle.fields.specs.Fields as field
-use Rattle.stages.specs.Stages as stage
+use Rattle.keybox.specs.KeyBox as keybox
 use Rattle.bk.specs.Bk.{bkFields, accountIn, tableIn}
 use Rattle.bk.specs.declared.Bk.{Bk}
 use Rattle.commands.specs.Commands.{roomToAnswer}
@@ -31,7 +31,7 @@ pub record Reaches (settings : Settings) (pinKeyGood pvkGood : Bool) (room : ℕ
   pub past : ℕ
   pub read : bkFields (settings .restricted) s (settings .header + 2) ≡ field.read fields past
   pub rows : List ℕ × List ℕ
-  pub boxed : stage.boxed pinKeyGood pvkGood block enciphered ≡ done rows
+  pub boxed : keybox.boxed pinKeyGood pvkGood block enciphered ≡ done rows
 
 -- its PIN and its natural PIN: it is not refused before its PIN is read
 pub record Reads (settings : Settings) (pinKeyGood pvkGood : Bool) (room : ℕ) (s block enciphered : List ℕ) : Type 0 where

@@ -1,7 +1,13 @@
 -- One answer to every promise of the crates of commands: each function cites the law of its shape.
 -- Assumes nothing.
-use Rattle.claims_functions.specs.Commands.{FrameSettled, FieldsSettled, KeysSettled, WeakSettled, StagesSettled, BkSettled, CommandsSettled}
+use Rattle.claims_functions.specs.Commands.{KeyBoxSettled, FrameSettled, FieldsSettled, KeysSettled, WeakSettled, StagesSettled, BkSettled, CommandsSettled}
 use Rattle.claims_functions.proofs.Once.{settled, left, answered}
+
+pub key-box-once : KeyBoxSettled
+key-box-once = record {
+  BoxRead·refusal = λ self. settled;
+  key-box = λ pinparity pvkparity block enciphered. settled;
+}
 
 pub frame-once : FrameSettled
 frame-once = record {
@@ -48,13 +54,11 @@ stages-once = record {
   WeakStage·fault = λ self. settled;
   End·fault = λ self. settled;
   FormatRead·refusal = λ self. settled;
-  BoxRead·refusal = λ self. settled;
   read-keys = λ command start field first second. settled;
   read-sealed = λ command block field restricted. settled;
   read-offsetting = λ command start field. settled;
   read-weak = λ command start field mark. settled;
   read-end = λ command start field keys. settled;
-  key-box = λ pinparity pvkparity block enciphered. settled;
 }
 
 pub bk-once : BkSettled

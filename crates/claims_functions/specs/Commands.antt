@@ -1,4 +1,4 @@
--- One answer to every promise of the crates of commands: frame, fields, keys, weak lists, stages, BK and the two calls.
+-- One answer to every promise of the crates of commands: key box, frame, fields, keys, weak lists, stages, BK and the two calls.
 -- Each line repeats by its text what the function of its name ensures, its inputs as variables, the lent buffer as it was as `before`.
 -- What a function requires is left out: no shape needs it, and outside it a contract promises nothing.
 use Prim.Native.Nat.{ℕ, _+_, _*_}
@@ -12,6 +12,9 @@ use Rattle.numbers.specs.Promise.{quietly}
 use Rattle.numbers.specs.declared.Refusal.{Refusal}
 use Rattle.settings.specs.declared.Settings.{Settings}
 use Rattle.blocks.specs.Answers.{blockOf}
+use Rattle.keybox.specs.KeyBox.{boxed}
+use Rattle.keybox.specs.Answers.{boxRead, boxRefusal}
+use Rattle.keybox.specs.declared.BoxRead.{BoxRead}
 use Rattle.frame.specs.Frame.{codeOf, isFramed, opening}
 use Rattle.fields.specs.Answers.{valueFrom, markFrom, noFault}
 use Rattle.fields.specs.Fields.{run, number, marked, trailer}
@@ -28,15 +31,14 @@ use Rattle.weak.specs.Answers.{weakFrom}
 use Rattle.weak.specs.Weak.{weakField, isOn, weakPins}
 use Rattle.weak.specs.declared.WeakRead.{WeakRead}
 use Rattle.weak.specs.declared.Weak.{Weak}
-use Rattle.stages.specs.Answers.{keysFault, sealedFault, offsettingFault, weakFault, endFault, formatRefusal, boxRefusal, keysRead, sealedRead, offsettingRead, weakStage, endOf, boxRead}
-use Rattle.stages.specs.Stages.{keys, sealed, offsetting, weak, end, boxed}
+use Rattle.stages.specs.Answers.{keysFault, sealedFault, offsettingFault, weakFault, endFault, formatRefusal, keysRead, sealedRead, offsettingRead, weakStage, endOf}
+use Rattle.stages.specs.Stages.{keys, sealed, offsetting, weak, end}
 use Rattle.stages.specs.declared.KeysRead.{KeysRead}
 use Rattle.stages.specs.declared.SealedRead.{SealedRead}
 use Rattle.stages.specs.declared.OffsettingRead.{OffsettingRead}
 use Rattle.stages.specs.declared.WeakStage.{WeakStage}
 use Rattle.stages.specs.declared.End.{End}
 use Rattle.stages.specs.declared.FormatRead.{FormatRead}
-use Rattle.stages.specs.declared.BoxRead.{BoxRead}
 use Rattle.stages.specs.declared.Keys.{Keys}
 use Rattle.bk.specs.Answers.{fieldsRefusal, bkRead, finishedOf}
 use Rattle.bk.specs.Bk.{bkFields, bkAsk, bkAnswer}
@@ -49,6 +51,11 @@ use Rattle.keys.specs.Answers as keyed
 use Rattle.weak.specs.Answers as weak-read
 use Rattle.bk.specs.Answers as finished
 use Rattle.claims_functions.specs.Once.{Settled, Left}
+
+-- every public function of keybox
+pub record KeyBoxSettled : Type 0 where
+  pub BoxRead·refusal : (self : BoxRead) → Settled (boxRefusal self)
+  pub key-box : (pinparity pvkparity : Bool) (block enciphered : List ℕ) → Settled (boxRead (boxed pinparity pvkparity block enciphered))
 
 -- every public function of frame
 pub record FrameSettled : Type 0 where
@@ -91,13 +98,11 @@ pub record StagesSettled : Type 0 where
   pub WeakStage·fault : (self : WeakStage) → Settled (weakFault self)
   pub End·fault : (self : End) → Settled (endFault self)
   pub FormatRead·refusal : (self : FormatRead) → Settled (formatRefusal self)
-  pub BoxRead·refusal : (self : BoxRead) → Settled (boxRefusal self)
   pub read-keys : (command : List ℕ) (start : Cursor) (field : ℕ) (first second : Use) → Settled (keysRead (keys field first second command (start .at)))
   pub read-sealed : (command : List ℕ) (block : Cursor) (field : ℕ) (restricted : Bool) → Settled (sealedRead (sealed field restricted command (block .at)))
   pub read-offsetting : (command : List ℕ) (start : Cursor) (field : ℕ) → Settled (offsettingRead (offsetting field command (start .at)))
   pub read-weak : (command : List ℕ) (start : Cursor) (field mark : ℕ) → Settled (weakStage (weak field mark command (start .at)))
   pub read-end : (command : List ℕ) (start : Cursor) (field : ℕ) (keys : Keys) → Settled (endOf (end field keys command (start .at)))
-  pub key-box : (pinparity pvkparity : Bool) (block enciphered : List ℕ) → Settled (boxRead (boxed pinparity pvkparity block enciphered))
 
 -- every public function of bk
 pub record BkSettled : Type 0 where

@@ -9,11 +9,11 @@ use lib.ListN.{length, take, drop, length-drop}
 use lib.Dec.{leb}
 use borrow.Author.Tests.{leb-true}
 use Rattle.alphabet.specs.Alphabet.{allOf}
-use Rattle.alphabet.specs.declared.Class.the-variants.{Digit, CapitalHex, Printable}
-use Rattle.numbers.specs.Numbers.{Outcome, done, refused, andThen, unless}
+use Rattle.alphabet.specs.declared.Class.the-variants.{Digit, Printable}
+use Rattle.numbers.specs.Numbers.{done, refused, unless}
 use Rattle.numbers.specs.declared.Refusal.the-variants.{Field15, Table25}
 use Rattle.numbers.proofs.Laws.{then-done, passed, value-of}
-use Rattle.fields.specs.Fields.{Found, Stage, read, faulty, field, fielded, onward, outcome, run, number, marked, behind, trailer, atMost}
+use Rattle.fields.specs.Fields.{Found, Stage, read, faulty, field, fielded, onward, run, number, marked, behind, trailer, atMost}
 use Rattle.fields.specs.declared.Fault.{Fault}
 use Rattle.fields.proofs.Laws.{run-found, number-found}
 use Rattle.stages.specs.Stages.{offsetting, validationField, validationWidth, weak, closed, end, allAgree, lastId}

@@ -1,10 +1,8 @@
 -- The stages' answers as values of the code.
 use Prim.Native.Nat.{ℕ, _+_}
-use mathlib.Core.List.{List}
-use Rattle.numbers.specs.Numbers.{Outcome, done, refused}
+use Rattle.numbers.specs.Numbers.{done, refused}
 use Rattle.numbers.specs.declared.Refusal.{Refusal}
-use Rattle.numbers.specs.declared.Refusal.the-variants.{Field15, NotHere69}
-use Rattle.nibbles.specs.Nibbles.{word}
+use Rattle.numbers.specs.declared.Refusal.the-variants.{NotHere69}
 use Rattle.formats.specs.declared.Format.{Format}
 use Rattle.fields.specs.Fields.{Found, Stage, read, faulty}
 use Rattle.fields.specs.Answers.{cursorAt, noFault}
@@ -13,7 +11,6 @@ use Rattle.weak.specs.declared.Weak.{Weak}
 use Rattle.stages.specs.declared.Keys.{Keys}
 use Rattle.stages.specs.declared.Sealed.{Sealed}
 use Rattle.stages.specs.declared.Offsetting.{Offsetting}
-use Rattle.stages.specs.declared.Boxed.{Boxed}
 use Rattle.stages.specs.declared.FormatRead.{FormatRead}
 use Rattle.stages.specs.declared.FormatRead.the-variants as format
 use Rattle.stages.specs.declared.KeysRead.{KeysRead}
@@ -26,8 +23,6 @@ use Rattle.stages.specs.declared.WeakStage.{WeakStage}
 use Rattle.stages.specs.declared.WeakStage.the-variants as weak
 use Rattle.stages.specs.declared.End.{End}
 use Rattle.stages.specs.declared.End.the-variants as end
-use Rattle.stages.specs.declared.BoxRead.{BoxRead}
-use Rattle.stages.specs.declared.BoxRead.the-variants as boxed
 
 -- ---- what a stage came to
 
@@ -73,7 +68,7 @@ abbrev pub endFault : End → Fault
 endFault (end.At mark) = noFault
 endFault (end.Bad f) = f
 
--- ---- a format's field, and the key box's answers
+-- ---- a format's field
 
 abbrev pub formatRead : ℕ → Found Format → FormatRead
 formatRead at (done r) = format.Got (r .0) (cursorAt (at + r .1))
@@ -82,11 +77,3 @@ formatRead at (refused q) = format.Bad q
 abbrev pub formatRefusal : FormatRead → Refusal
 formatRefusal (format.Got f c) = NotHere69
 formatRefusal (format.Bad q) = q
-
-abbrev pub boxRead : Outcome (List ℕ × List ℕ) → BoxRead
-boxRead (done p) = boxed.Got (record { block = word (p .0); enciphered = word (p .1) })
-boxRead (refused q) = boxed.Bad q
-
-abbrev pub boxRefusal : BoxRead → Refusal
-boxRefusal (boxed.Got b) = Field15
-boxRefusal (boxed.Bad q) = q

@@ -1,15 +1,14 @@
 -- The stages of a command: runs of fields that commands share. Each is told its first field's number.
 use Prim.Native.Nat.{ℕ, _+_}
 use mathlib.Core.List.{List}
-use mathlib.Core.Bool.{Bool, true, false, not, _&&_, _||_, cond}
-use lib.ListN.{length, take, drop}
+use mathlib.Core.Bool.{Bool, not, _&&_, _||_, cond}
+use lib.ListN.{length, take}
 use lib.Dec.{leb}
 use Rattle.alphabet.specs.declared.Class.the-variants.{Digit, CapitalHex}
-use Rattle.numbers.specs.Numbers.{Outcome, done, andThen, unless}
-use Rattle.numbers.specs.declared.Refusal.the-variants.{PinKeyParity10, PvkParity11, Field15, Table25, NotHere69}
+use Rattle.numbers.specs.Numbers.{andThen, unless}
+use Rattle.numbers.specs.declared.Refusal.the-variants.{Field15, Table25, NotHere69}
 use Rattle.formats.specs.Formats.{codeOf, formatOf, is01or47}
 use Rattle.formats.specs.declared.Format.{Format}
-use Rattle.pins.specs.Pins.{sized}
 use Rattle.validation.specs.Validation.{letterP, isValidation}
 use Rattle.fields.specs.Fields.{Found, Stage, read, faulty, field, run, number, marked, trailer}
 use Rattle.fields.specs.declared.Fault.{Fault}
@@ -106,13 +105,3 @@ end first ks s at =
     field first lmkField s at
     (λ own mark. field (first + 1) trailer s mark
     (λ _ past. closed ks own first at s mark past))
-
--- ---- what the key box answered
-
--- "two slices that are not 8 bytes long (15), 10, 11": the nibbles of the deciphered PIN block and of the enciphered validation block
-unfoldable pub boxed : Bool → Bool → List ℕ → List ℕ → Outcome (List ℕ × List ℕ)
-boxed pinKeyGood pvkGood block enciphered =
-    andThen (sized 8 block)
-    (λ ns. andThen (sized 8 enciphered)
-    (λ es. andThen (unless PinKeyParity10 pinKeyGood es)
-    (λ _. unless PvkParity11 pvkGood (ns, es))))

@@ -1,11 +1,11 @@
-// The stages of a command: runs of fields that commands share, and the key box's answers. What a stage read is places in the
-// command and the few values that later stages need.
+// The stages of a command: runs of fields that commands share. What a stage read is places in the command and the few values that
+// later stages need.
 ghost use mathlib.Core.Path.{_≡_};
 ghost use Prim.Native.Nat.{_+_, _≤_};
 ghost use lib.ListN.{length, drop};
 ghost use Rattle.fields.specs.Answers.{valueFrom};
-ghost use Rattle.stages.specs.Stages.{keys, allows, formatField, sealed, validationWidth, validationField, offsetting, weak, allAgree, lastId, closed, end, boxed};
-ghost use Rattle.stages.specs.Answers.{keysRead, keysFault, sealedRead, sealedFault, offsettingRead, offsettingFault, weakStage, weakFault, endOf, endFault, formatRead, formatRefusal, boxRead, boxRefusal};
+ghost use Rattle.stages.specs.Stages.{keys, allows, formatField, sealed, validationWidth, validationField, offsetting, weak, allAgree, lastId, closed, end};
+ghost use Rattle.stages.specs.Answers.{keysRead, keysFault, sealedRead, sealedFault, offsettingRead, offsettingFault, weakStage, weakFault, endOf, endFault, formatRead, formatRefusal};
 use alphabet::Class;
 use fields::Cursor;
 use fields::Fault;
@@ -18,7 +18,6 @@ use keys::Lmk;
 use keys::Typed;
 use keys::Use;
 use numbers::Refusal;
-use pins::Row;
 use validation::Shape;
 use weak::Weak;
 use weak::WeakRead;
@@ -44,12 +43,6 @@ pub struct Offsetting {
     pub table: usize,
     pub validation: usize,
     pub width: usize,
-}
-
-// The rows that the key box answered: the deciphered PIN block and the enciphered validation block.
-pub struct Boxed {
-    pub block: u64,
-    pub enciphered: u64,
 }
 
 pub enum KeysRead {
@@ -80,11 +73,6 @@ pub enum End {
 
 pub enum FormatRead {
     Got(Format, Cursor),
-    Bad(Refusal),
-}
-
-pub enum BoxRead {
-    Got(Boxed),
     Bad(Refusal),
 }
 
@@ -151,17 +139,6 @@ impl FormatRead {
         match self {
             FormatRead::Got(_, _) => Refusal::NotHere69,
             FormatRead::Bad(q) => q,
-        }
-    }
-}
-
-impl BoxRead {
-    pub fn refusal(self) -> Refusal
-        ensures { λ r. ⌜ r ≡ boxRefusal self ⌝ }
-    {
-        match self {
-            BoxRead::Got(_) => Refusal::Field15,
-            BoxRead::Bad(q) => q,
         }
     }
 }
@@ -361,28 +338,4 @@ pub fn read_end(command: &[u8], start: Cursor, field: usize, keys: Keys) -> End
         return End::Bad(last_id(keys, own, field, start));
     }
     End::At(mark.at)
-}
-
-// The key box's answers: the slices (15), 10, 11.
-pub fn key_box(pinparity: bool, pvkparity: bool, block: &[u8], enciphered: &[u8]) -> BoxRead
-    ensures { λ r. ⌜ r ≡ boxRead (boxed pinparity pvkparity (now (block .entry)) (now (enciphered .entry))) ⌝ }
-{
-    let sized = pins::sized_row(block, 8);
-    let Row::Held(clear) = sized else {
-        return BoxRead::Bad(Refusal::Field15);
-    };
-    let validation = pins::sized_row(enciphered, 8);
-    let Row::Held(cipher) = validation else {
-        return BoxRead::Bad(Refusal::Field15);
-    };
-    if !pinparity {
-        return BoxRead::Bad(Refusal::PinKeyParity10);
-    }
-    if !pvkparity {
-        return BoxRead::Bad(Refusal::PvkParity11);
-    }
-    BoxRead::Got(Boxed {
-        block: clear,
-        enciphered: cipher,
-    })
 }

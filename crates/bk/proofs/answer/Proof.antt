@@ -4,7 +4,7 @@ use mathlib.Core.Path.{sym, ap, _∙_}
 use borrow.Author.Needs.{needs}
 use Rattle.nibbles.proofs.Laws.{bytes-below}
 use Rattle.pins.specs.Answers.{refusalIn}
-use Rattle.stages.specs.Answers.{boxRefusal}
+use Rattle.keybox.specs.Answers.{boxRefusal}
 use Rattle.bk.specs.Answers.{fieldsRefusal, finishedOf}
 use Rattle.bk.specs.declared.Finished.the-variants.{Bad}
 use Rattle.bk.proofs.Calls.{found-placed, answer-faulty, answer-unboxed, answer-unfinished, answer-made}

@@ -1,4 +1,4 @@
--- `stages::key_box` meets its contract.
+-- `keybox::key_box` meets its contract.
 -- Assumes nothing.
 use Prim.Native.Nat.{ℕ}
 use mathlib.Core.Path.{sym, ap₂, _∙_}
@@ -10,11 +10,11 @@ use Rattle.numbers.proofs.Laws.{failed}
 use Rattle.numbers.specs.declared.Refusal.the-variants.{Field15}
 use Rattle.pins.specs.Pins.{sized}
 use Rattle.pins.proofs.Laws.{row-held, row-refused}
-use Rattle.stages.specs.Stages.{boxed}
-use Rattle.stages.specs.declared.BoxRead.the-variants.{Got}
+use Rattle.keybox.specs.KeyBox.{boxed}
+use Rattle.keybox.specs.declared.BoxRead.the-variants.{Got}
 use borrow.Author.Needs.{needs}
-use Rattle.stages.proofs.key_box.Statement.{statement}
-use Rattle.stages.proofs.key_box.Tie as tie
+use Rattle.keybox.proofs.key_box.Statement.{statement}
+use Rattle.keybox.proofs.key_box.Tie as tie
 
 sized-row-requires : tie.Need-sized-row-requires
 sized-row-requires c κs = search needs

@@ -1,0 +1,2 @@
+pub mod KeyBox
+pub mod Answers
