@@ -24,14 +24,17 @@ use Rattle.offsets.proofs.Laws.{with-natural-fit}
 use Rattle.keybox.specs.KeyBox.{boxed}
 use Rattle.keybox.proofs.Laws.{boxed-sixteen}
 use Rattle.fields.specs.Fields.{Stage, read, faulty, onward, outcome}
+use Rattle.fields.proofs.Reading.{onward-read, read-once}
 use Rattle.keys.specs.declared.Use.the-variants.{PinKey, Pvk}
 use Rattle.weak.specs.Weak.{isOn, weakPins}
 use Rattle.weak.specs.declared.Weak.{Weak}
-use Rattle.stages.specs.Stages.{keys, sealed, offsetting, weak, end}
+use Rattle.stages.specs.Stages.{keys, sealed, offsetting, weak}
 use Rattle.stages.specs.declared.Keys.{Keys}
 use Rattle.stages.specs.declared.Sealed.{Sealed}
 use Rattle.stages.specs.declared.Offsetting.{Offsetting}
-use Rattle.stages.proofs.Laws.{onward-read, read-once, offsetting-held, weak-held, end-held}
+use Rattle.stages.proofs.Laws.{offsetting-held, weak-held}
+use Rattle.endings.specs.Endings.{end}
+use Rattle.endings.proofs.Laws.{end-held}
 use Rattle.bk.proofs.Laws.{values-length, values-below}
 use Rattle.bk.specs.Bk.{weakMark, bkFields, part, accountIn, tableIn, validationIn, bkAsk, bkFinish, bkAnswer}
 use Rattle.bk.specs.Answers.{Placed}

@@ -10,8 +10,8 @@ use Rattle.fields.specs.declared.Cursor.{Cursor}
 use Rattle.fields.specs.declared.Fault.{Fault}
 use Rattle.keys.specs.declared.Use.the-variants.{PinKey, Pvk}
 use Rattle.weak.specs.declared.Weak.{Weak}
-use Rattle.stages.specs.Stages.{keys, sealed, offsetting, weak, end}
-use Rattle.stages.specs.Answers.{keysRead, sealedRead, offsettingRead, weakStage, endOf}
+use Rattle.stages.specs.Stages.{keys, sealed, offsetting, weak}
+use Rattle.stages.specs.Answers.{keysRead, sealedRead, offsettingRead, weakStage}
 use Rattle.stages.specs.declared.Keys.{Keys}
 use Rattle.stages.specs.declared.Sealed.{Sealed}
 use Rattle.stages.specs.declared.Offsetting.{Offsetting}
@@ -19,7 +19,10 @@ use Rattle.stages.specs.declared.KeysRead.the-variants as keyed
 use Rattle.stages.specs.declared.SealedRead.the-variants as blocked
 use Rattle.stages.specs.declared.OffsettingRead.the-variants as data-read
 use Rattle.stages.specs.declared.WeakStage.the-variants as listed
-use Rattle.stages.specs.declared.End.the-variants as ended
+use Rattle.endings.specs.Endings.{end}
+use Rattle.endings.specs.Answers.{endOf}
+use Rattle.endings.specs.declared.End.the-variants as ended
+use Rattle.endings.proofs.Laws.{end-found, end-bad}
 use Rattle.bk.specs.Bk.{weakMark, bkFields}
 use Rattle.bk.specs.Answers.{bkRead}
 use Rattle.bk.specs.declared.Bk.{Bk}
@@ -58,14 +61,6 @@ weak-found (faulty f) w c e = absurd (let z : _≡_ {A = ℕ} 0 1 = cc in omega 
 pub weak-bad : (o : Stage Weak) (f : Fault) → listed.Bad f ≡ weakStage o → o ≡ faulty f
 weak-bad (read x at) f e = absurd (let z : _≡_ {A = ℕ} 0 1 = cc in omega arith)
 weak-bad (faulty g) f e = cc
-
-pub end-found : (o : Stage ℕ) (mark : ℕ) → ended.At mark ≡ endOf o → (past : ℕ) × (o ≡ read mark past)
-end-found (read m past) mark e = (past, (let p : m ≡ mark = cc in rw p))
-end-found (faulty f) mark e = absurd (let z : _≡_ {A = ℕ} 0 1 = cc in omega arith)
-
-pub end-bad : (o : Stage ℕ) (f : Fault) → ended.Bad f ≡ endOf o → o ≡ faulty f
-end-bad (read m past) f e = absurd (let z : _≡_ {A = ℕ} 0 1 = cc in omega arith)
-end-bad (faulty g) f e = cc
 
 -- ---- behind the fields' answer
 

@@ -15,7 +15,8 @@ use Rattle.keybox.specs.KeyBox.{boxed}
 use Rattle.fields.specs.Fields.{Stage, read, onward, outcome}
 use Rattle.keys.specs.declared.Use.the-variants.{PinKey, Pvk}
 use Rattle.weak.specs.Weak.{isOn, weakPins}
-use Rattle.stages.specs.Stages.{keys, sealed, offsetting, weak, end}
+use Rattle.stages.specs.Stages.{keys, sealed, offsetting, weak}
+use Rattle.endings.specs.Endings.{end}
 use Rattle.bk.specs.declared.Bk.{Bk}
 
 -- the weak list's mark: "ours is the semicolon"

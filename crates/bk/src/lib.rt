@@ -9,6 +9,7 @@ ghost use Rattle.blocks.specs.Answers.{blockOf};
 ghost use Rattle.pins.specs.Answers.{readingOf};
 ghost use Rattle.bk.specs.Bk.{bkFields, part, bkAsk, bkFinish, bkAnswer};
 ghost use Rattle.bk.specs.Answers.{bkRead, fieldsRefusal, finishedOf, refusalIn, Placed};
+use endings::End;
 use fields::Cursor;
 use fields::Fault;
 use keybox::BoxRead;
@@ -21,7 +22,6 @@ use pins::Pin;
 use pins::Reading;
 use pins::Row;
 use settings::Settings;
-use stages::End;
 use stages::KeysRead;
 use stages::Offsetting;
 use stages::OffsettingRead;
@@ -96,7 +96,7 @@ pub fn read(restricted: bool, command: &[u8], start: Cursor) -> BkRead
     let WeakStage::Got(weak, at_end) = listed else {
         return BkRead::Bad(listed.fault());
     };
-    let ended = stages::read_end(command, at_end, 11, keys);
+    let ended = endings::read_end(command, at_end, 11, keys);
     let End::At(trailer) = ended else {
         return BkRead::Bad(ended.fault());
     };

@@ -14,7 +14,8 @@ use Rattle.fields.specs.Fields.{Found, Stage, fielded, field, run, number, trai
 use Rattle.keys.specs.Keys.{lmkField}
 use Rattle.keys.specs.declared.Lmk.{Lmk}
 use Rattle.weak.specs.Weak.{weakField}
-use Rattle.stages.specs.Stages.{formatField, sealed, validationField, offsetting, weak, closed, end}
+use Rattle.stages.specs.Stages.{formatField, sealed, validationField, offsetting, weak}
+use Rattle.endings.specs.Endings.{closed, end}
 use Rattle.stages.specs.declared.Keys.{Keys}
 
 -- from a place on they are the same, and they have one length

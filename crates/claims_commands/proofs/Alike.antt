@@ -14,7 +14,7 @@ use Rattle.frame.specs.Frame.{opening}
 use Rattle.fields.specs.Fields.{read, run}
 use Rattle.fields.proofs.Steady.{alike-less, alike-at}
 use Rattle.keys.specs.declared.Use.the-variants.{PinKey, Pvk}
-use Rattle.stages.proofs.Laws.{read-once}
+use Rattle.fields.proofs.Reading.{read-once}
 use Rattle.bk.specs.Bk.{weakMark, bkFields, accountIn, tableIn, validationIn}
 use Rattle.bk.specs.declared.Bk.{Bk}
 use Rattle.claims_commands.specs.Runs.{AlikeBut}

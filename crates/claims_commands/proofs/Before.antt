@@ -19,7 +19,7 @@ use Rattle.keys.proofs.Steady.{key-type-steady}
 use Rattle.keys.proofs.SteadyKeys.{key-steady}
 use Rattle.stages.specs.Stages.{keys}
 use Rattle.stages.specs.declared.Keys.{Keys}
-use Rattle.stages.proofs.Laws.{field-read, read-once}
+use Rattle.fields.proofs.Reading.{field-read, read-once}
 
 -- what a steady reader found before a place it finds in both
 pub reader-before :

@@ -33,9 +33,10 @@ use Rattle.fields.specs.Fields.{Stage, read, faulty, outcome, run, number, trai
 use Rattle.keys.specs.Keys.{keyType, hexKey, lettered, key, lmkField}
 use Rattle.weak.specs.Weak.{weakField, entries, isOn}
 use Rattle.keybox.specs.KeyBox.{boxed}
-use Rattle.stages.specs.Stages.{keys, formatField, sealed, validationWidth, validationField, offsetting, weak, end}
+use Rattle.stages.specs.Stages.{keys, formatField, sealed, validationWidth, validationField, offsetting, weak}
+use Rattle.endings.specs.Endings.{end}
 use Rattle.stages.specs.declared.Offsetting.{Offsetting}
-use Rattle.stages.proofs.Laws.{field-read, read-once}
+use Rattle.fields.proofs.Reading.{field-read, read-once}
 use Rattle.bk.specs.Bk.{bkFields, accountIn, validationIn, bkAsk, bkFinish, bkAnswer}
 use Rattle.bk.specs.declared.Bk as bk
 use Rattle.commands.specs.Commands.{askBy, answerBy, commanded, responding, silently, asked, answered}

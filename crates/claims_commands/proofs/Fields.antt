@@ -27,7 +27,8 @@ use Rattle.keys.specs.declared.Use.the-variants.{PinKey, Pvk}
 use Rattle.keys.specs.declared.Lmk.{Lmk}
 use Rattle.weak.specs.Weak.{noneAt, weakField}
 use Rattle.weak.specs.Weak as list
-use Rattle.stages.specs.Stages.{allows, formatField, validationWidth, validationField, keys, sealed, offsetting, weak, allAgree, lastId, closed, end}
+use Rattle.stages.specs.Stages.{allows, formatField, validationWidth, validationField, keys, sealed, offsetting, weak}
+use Rattle.endings.specs.Endings.{allAgree, lastId, closed, end}
 use Rattle.stages.specs.declared.Keys.{Keys}
 use Rattle.bk.specs.Bk.{weakMark, bkFields}
 use Rattle.claims_blocks.specs.Promises.{listed}

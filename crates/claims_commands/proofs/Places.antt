@@ -18,11 +18,12 @@ use Rattle.keys.specs.declared.Use.the-variants.{PinKey, Pvk}
 use Rattle.weak.specs.Weak.{weakField}
 use Rattle.weak.specs.declared.Weak.{Weak}
 use Rattle.weak.proofs.Laws.{Tells, unmarked, empty, filled, weak-tells}
-use Rattle.stages.specs.Stages.{keys, sealed, formatField, offsetting, validationField, weak, end, allAgree}
+use Rattle.stages.specs.Stages.{keys, sealed, formatField, offsetting, validationField, weak}
+use Rattle.endings.specs.Endings.{end, allAgree}
 use Rattle.stages.specs.declared.Keys.{Keys}
 use Rattle.stages.specs.declared.Sealed.{Sealed}
 use Rattle.stages.specs.declared.Offsetting.{Offsetting}
-use Rattle.stages.proofs.Laws.{field-read, onward-read, read-once}
+use Rattle.fields.proofs.Reading.{field-read, onward-read, read-once}
 use Rattle.bk.specs.Bk.{weakMark, bkFields}
 use Rattle.bk.specs.declared.Bk.{Bk}
 use Rattle.claims_commands.proofs.Before.{keys-onward}

@@ -25,7 +25,8 @@ use Rattle.keys.specs.Keys.{keyType, hexKey, lettered, key, lmkField}
 use Rattle.weak.specs.Weak.{noneAt, listed, weakField, entries, isOn}
 use Rattle.weak.specs.declared.Weak.{Weak}
 use Rattle.keybox.specs.KeyBox.{boxed}
-use Rattle.stages.specs.Stages.{keys, formatField, sealed, validationField, offsetting, weak, end}
+use Rattle.stages.specs.Stages.{keys, formatField, sealed, validationField, offsetting, weak}
+use Rattle.endings.specs.Endings.{end}
 use Rattle.bk.specs.Bk.{bkFields, accountIn, tableIn, bkFinish, bkAnswer}
 use Rattle.bk.specs.declared.Bk.{Bk}
 use Rattle.commands.specs.Commands.{roomToAnswer, answerBy, answered}

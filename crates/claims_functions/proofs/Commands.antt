@@ -1,6 +1,6 @@
 -- One answer to every promise of the crates of commands: each function cites the law of its shape.
 -- Assumes nothing.
-use Rattle.claims_functions.specs.Commands.{KeyBoxSettled, FrameSettled, FieldsSettled, KeysSettled, WeakSettled, StagesSettled, BkSettled, CommandsSettled}
+use Rattle.claims_functions.specs.Commands.{KeyBoxSettled, FrameSettled, FieldsSettled, KeysSettled, WeakSettled, StagesSettled, EndingsSettled, BkSettled, CommandsSettled}
 use Rattle.claims_functions.proofs.Once.{settled, left, answered}
 
 pub key-box-once : KeyBoxSettled
@@ -52,12 +52,16 @@ stages-once = record {
   SealedRead·fault = λ self. settled;
   OffsettingRead·fault = λ self. settled;
   WeakStage·fault = λ self. settled;
-  End·fault = λ self. settled;
   FormatRead·refusal = λ self. settled;
   read-keys = λ command start field first second. settled;
   read-sealed = λ command block field restricted. settled;
   read-offsetting = λ command start field. settled;
   read-weak = λ command start field mark. settled;
+}
+
+pub endings-once : EndingsSettled
+endings-once = record {
+  End·fault = λ self. settled;
   read-end = λ command start field keys. settled;
 }
 

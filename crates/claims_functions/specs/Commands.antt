@@ -1,4 +1,5 @@
--- One answer to every promise of the crates of commands: key box, frame, fields, keys, weak lists, stages, BK and the two calls.
+-- One answer to every promise of the crates of commands: key box, frame, fields, keys, weak lists, stages, endings, BK and the two
+-- calls.
 -- Each line repeats by its text what the function of its name ensures, its inputs as variables, the lent buffer as it was as `before`.
 -- What a function requires is left out: no shape needs it, and outside it a contract promises nothing.
 use Prim.Native.Nat.{ℕ, _+_, _*_}
@@ -31,15 +32,17 @@ use Rattle.weak.specs.Answers.{weakFrom}
 use Rattle.weak.specs.Weak.{weakField, isOn, weakPins}
 use Rattle.weak.specs.declared.WeakRead.{WeakRead}
 use Rattle.weak.specs.declared.Weak.{Weak}
-use Rattle.stages.specs.Answers.{keysFault, sealedFault, offsettingFault, weakFault, endFault, formatRefusal, keysRead, sealedRead, offsettingRead, weakStage, endOf}
-use Rattle.stages.specs.Stages.{keys, sealed, offsetting, weak, end}
+use Rattle.stages.specs.Answers.{keysFault, sealedFault, offsettingFault, weakFault, formatRefusal, keysRead, sealedRead, offsettingRead, weakStage}
+use Rattle.stages.specs.Stages.{keys, sealed, offsetting, weak}
 use Rattle.stages.specs.declared.KeysRead.{KeysRead}
 use Rattle.stages.specs.declared.SealedRead.{SealedRead}
 use Rattle.stages.specs.declared.OffsettingRead.{OffsettingRead}
 use Rattle.stages.specs.declared.WeakStage.{WeakStage}
-use Rattle.stages.specs.declared.End.{End}
 use Rattle.stages.specs.declared.FormatRead.{FormatRead}
 use Rattle.stages.specs.declared.Keys.{Keys}
+use Rattle.endings.specs.Endings.{end}
+use Rattle.endings.specs.Answers.{endOf, endFault}
+use Rattle.endings.specs.declared.End.{End}
 use Rattle.bk.specs.Answers.{fieldsRefusal, bkRead, finishedOf}
 use Rattle.bk.specs.Bk.{bkFields, bkAsk, bkAnswer}
 use Rattle.bk.specs.declared.BkRead.{BkRead}
@@ -96,12 +99,15 @@ pub record StagesSettled : Type 0 where
   pub SealedRead·fault : (self : SealedRead) → Settled (sealedFault self)
   pub OffsettingRead·fault : (self : OffsettingRead) → Settled (offsettingFault self)
   pub WeakStage·fault : (self : WeakStage) → Settled (weakFault self)
-  pub End·fault : (self : End) → Settled (endFault self)
   pub FormatRead·refusal : (self : FormatRead) → Settled (formatRefusal self)
   pub read-keys : (command : List ℕ) (start : Cursor) (field : ℕ) (first second : Use) → Settled (keysRead (keys field first second command (start .at)))
   pub read-sealed : (command : List ℕ) (block : Cursor) (field : ℕ) (restricted : Bool) → Settled (sealedRead (sealed field restricted command (block .at)))
   pub read-offsetting : (command : List ℕ) (start : Cursor) (field : ℕ) → Settled (offsettingRead (offsetting field command (start .at)))
   pub read-weak : (command : List ℕ) (start : Cursor) (field mark : ℕ) → Settled (weakStage (weak field mark command (start .at)))
+
+-- every public function of endings
+pub record EndingsSettled : Type 0 where
+  pub End·fault : (self : End) → Settled (endFault self)
   pub read-end : (command : List ℕ) (start : Cursor) (field : ℕ) (keys : Keys) → Settled (endOf (end field keys command (start .at)))
 
 -- every public function of bk

@@ -1,2 +1,3 @@
 pub mod Laws
 pub mod Steady
+pub mod Reading

@@ -116,7 +116,7 @@ mapped-steady {A} {B} beyond f reader r = record {
         (t .0 .0, t .1 ∙ ap (λ (k : ℕ). done (t .0 .0, k)) (ap (λ (r : B × ℕ). r .1) w), ap (λ (r : B × ℕ). r .0) w)
 
 -- what was found behind a character was found before it
-behind-done : {A : Type 0} (o : Found A) (a : A) (n : ℕ) → behind 1 o ≡ done (a, n) → (m : ℕ) × (o ≡ done (a, m)) × (n ≡ 1 + m)
+pub behind-done : {A : Type 0} (o : Found A) (a : A) (n : ℕ) → behind 1 o ≡ done (a, n) → (m : ℕ) × (o ≡ done (a, m)) × (n ≡ 1 + m)
 behind-done {A} (done (b, m)) a n e = let w = value-of e in (m, ap (λ (x : A). done (x, m)) (ap (λ (r : A × ℕ). r .0) w), sym (ap (λ (r : A × ℕ). r .1) w))
 behind-done (refused q) a n e = absurd (let z : _≡_ {A = ℕ} 0 1 = cc in omega arith)
 

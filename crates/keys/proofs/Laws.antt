@@ -5,14 +5,14 @@ use native.Mathlib.Nat.{add-assoc, add-zero}
 use native.Mathlib.Omega.{arith}
 use mathlib.Core.Path.{_≡_, refl, sym, ap, _∙_}
 use mathlib.Core.List.{List}
-use mathlib.Core.Bool.{Bool, true, false, _&&_}
+use mathlib.Core.Bool.{Bool, true, false, _&&_, cond}
 use lib.ListN.{length, getD, drop, length-drop}
 use lib.Seq.{drop-drop, getD-drop}
 use lib.Dec.{leb}
 use borrow.Author.Tests.{le-leb, lt-leb}
 use Rattle.nibbles.specs.Nibbles.{within}
 use Rattle.nibbles.proofs.Laws.{inside, inside-low, inside-high}
-use Rattle.alphabet.specs.Alphabet.{valueOf}
+use Rattle.alphabet.specs.Alphabet.{begins, valueOf}
 use Rattle.alphabet.specs.declared.Class.the-variants.{Digit, CapitalHex, Printable}
 use Rattle.numbers.specs.Numbers.{done, refused, andThen, unless}
 use Rattle.numbers.proofs.Laws.{then-done, passed, value-of}
@@ -25,7 +25,7 @@ use Rattle.fields.specs.declared.Value.the-variants.{Got, Bad}
 use Rattle.fields.specs.declared.Mark.the-variants.{Behind}
 use Rattle.fields.specs.declared.Mark.the-variants as mark
 use Rattle.fields.proofs.Laws.{value-of-found, value-of-bad, mark-there, mark-absent, run-found, run-refuses, number-found, number-refuses}
-use Rattle.keys.specs.Keys.{hexKey, saidLength, blockLength, permits, keyBlock, lettered, key, lmkField}
+use Rattle.keys.specs.Keys.{type001, type002, typeFFF, keyType, hexKey, saidLength, blockLength, permits, keyBlock, lettered, key, lmkField}
 use Rattle.keys.specs.Answers.{typedFrom, keyedFrom}
 use Rattle.keys.specs.declared.Letters.{Letters}
 use Rattle.keys.specs.declared.Letters.the-variants.{UOrT, S}
@@ -69,6 +69,21 @@ pub keyed-marked : (s : List ℕ) (at : ℕ) (reader : List ℕ → Found Lmk) (
 keyed-marked s at reader c o e a =
     let b : o ≡ keyedFrom (at + 1) (reader (drop (at + 1) s)) = a ∙ rw e in
     b ∙ rw (drop-drop 1 at s) (keyed-behind at 1 (reader (drop (at + 1) s)))
+
+-- ---- the key type
+
+-- a key type is refused with 15 only
+pub type-refuses : (cs : List ℕ) (q : Refusal) → keyType cs ≡ refused q → q ≡ Field15
+unfolding keyType
+type-refuses cs q e = by-types (begins type001 cs) (begins type002 cs) (begins typeFFF cs) e where
+  not-done : {r : Letters × ℕ} → done r ≡ refused q → ⊥
+  not-done h = let z : _≡_ {A = ℕ} 0 1 = cc in omega arith
+
+  by-types : (a b c : Bool) → cond {A = Found Letters} a (done (UOrT, 3)) (cond {A = Found Letters} b (done (UOrT, 3)) (cond {A = Found Letters} c (done (S, 3)) (refused Field15))) ≡ refused q → q ≡ Field15
+  by-types true b c h = absurd (not-done h)
+  by-types false true c h = absurd (not-done h)
+  by-types false false true h = absurd (not-done h)
+  by-types false false false h = cc
 
 -- ---- fields one after the other
 

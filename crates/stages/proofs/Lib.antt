@@ -1,4 +1,3 @@
 pub mod Reading
-pub mod Ending
 pub mod Laws
 pub mod Steady

@@ -21,8 +21,6 @@ use Rattle.stages.specs.declared.OffsettingRead.{OffsettingRead}
 use Rattle.stages.specs.declared.OffsettingRead.the-variants as offsetting
 use Rattle.stages.specs.declared.WeakStage.{WeakStage}
 use Rattle.stages.specs.declared.WeakStage.the-variants as weak
-use Rattle.stages.specs.declared.End.{End}
-use Rattle.stages.specs.declared.End.the-variants as end
 
 -- ---- what a stage came to
 
@@ -42,10 +40,6 @@ abbrev pub weakStage : Stage Weak → WeakStage
 weakStage (read w at) = weak.Got w (cursorAt at)
 weakStage (faulty f) = weak.Bad f
 
-abbrev pub endOf : Stage ℕ → End
-endOf (read mark at) = end.At mark
-endOf (faulty f) = end.Bad f
-
 -- ---- the fault, where there is one
 
 abbrev pub keysFault : KeysRead → Fault
@@ -63,10 +57,6 @@ offsettingFault (offsetting.Bad f) = f
 abbrev pub weakFault : WeakStage → Fault
 weakFault (weak.Got w c) = noFault
 weakFault (weak.Bad f) = f
-
-abbrev pub endFault : End → Fault
-endFault (end.At mark) = noFault
-endFault (end.Bad f) = f
 
 -- ---- a format's field
 

@@ -1,7 +1,7 @@
 -- The stages of a command: runs of fields that commands share. Each is told its first field's number.
 use Prim.Native.Nat.{ℕ, _+_}
 use mathlib.Core.List.{List}
-use mathlib.Core.Bool.{Bool, not, _&&_, _||_, cond}
+use mathlib.Core.Bool.{Bool, not, _||_, cond}
 use lib.ListN.{length, take}
 use lib.Dec.{leb}
 use Rattle.alphabet.specs.declared.Class.the-variants.{Digit, CapitalHex}
@@ -10,11 +10,9 @@ use Rattle.numbers.specs.declared.Refusal.the-variants.{Field15, Table25, NotHe
 use Rattle.formats.specs.Formats.{codeOf, formatOf, is01or47}
 use Rattle.formats.specs.declared.Format.{Format}
 use Rattle.validation.specs.Validation.{letterP, isValidation}
-use Rattle.fields.specs.Fields.{Found, Stage, read, faulty, field, run, number, marked, trailer}
-use Rattle.fields.specs.declared.Fault.{Fault}
-use Rattle.keys.specs.Keys.{keyType, key, lmkField, agree, present}
+use Rattle.fields.specs.Fields.{Found, Stage, read, field, run, number, marked}
+use Rattle.keys.specs.Keys.{keyType, key}
 use Rattle.keys.specs.declared.Use.{Use}
-use Rattle.keys.specs.declared.Lmk.{Lmk}
 use Rattle.weak.specs.Weak.{weakField}
 use Rattle.weak.specs.declared.Weak.{Weak}
 use Rattle.stages.specs.declared.Keys.{Keys}
@@ -77,31 +75,3 @@ offsetting first s at =
 -- "10. Optional ;, weak count, …": the mark is the command's
 unfoldable pub weak : ℕ → ℕ → List ℕ → ℕ → Stage Weak
 weak first mark s at = field first (weakField mark at) s at (λ w next. read w next)
-
--- ---- End: LMK id, trailer, nothing left over, ids agree
-
--- "LMK ids present in fields 2, 3 and 11 must all agree"
-abbrev pub allAgree : Keys → Lmk → Bool
-allAgree ks own = agree (ks .first) (ks .second) && (agree (ks .first) own && agree (ks .second) own)
-
--- the last id that is present: its field's number and place
-abbrev pub lastId : Keys → Lmk → ℕ → ℕ → Fault
-lastId ks own first at =
-    cond (present own)
-    (record { refusal = Field15; field = first; place = at })
-    (record { refusal = Field15; field = ks .field; place = ks .place })
-
--- "anything left over" is 15; then "LMK ids … must all agree, else 15"
-abbrev pub closed : Keys → Lmk → ℕ → ℕ → List ℕ → ℕ → ℕ → Stage ℕ
-closed ks own first at s mark past =
-    cond (leb (length s) past)
-    (cond (allAgree ks own) (read mark past) (faulty (lastId ks own first at)))
-    (faulty (record { refusal = Field15; field = 0; place = past }))
-
--- "11. Optional % and LMK id 00 to 09"; "12. Optional byte 19 hex and a trailer". What is read is the place of the trailer's mark: from
--- there on the command is its trailer, with its mark, or nothing
-unfoldable pub end : ℕ → Keys → List ℕ → ℕ → Stage ℕ
-end first ks s at =
-    field first lmkField s at
-    (λ own mark. field (first + 1) trailer s mark
-    (λ _ past. closed ks own first at s mark past))

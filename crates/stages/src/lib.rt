@@ -1,11 +1,11 @@
 // The stages of a command: runs of fields that commands share. What a stage read is places in the command and the few values that
 // later stages need.
 ghost use mathlib.Core.Path.{_≡_};
-ghost use Prim.Native.Nat.{_+_, _≤_};
-ghost use lib.ListN.{length, drop};
+ghost use Prim.Native.Nat.{_≤_};
+ghost use lib.ListN.{drop};
 ghost use Rattle.fields.specs.Answers.{valueFrom};
-ghost use Rattle.stages.specs.Stages.{keys, allows, formatField, sealed, validationWidth, validationField, offsetting, weak, allAgree, lastId, closed, end};
-ghost use Rattle.stages.specs.Answers.{keysRead, keysFault, sealedRead, sealedFault, offsettingRead, offsettingFault, weakStage, weakFault, endOf, endFault, formatRead, formatRefusal};
+ghost use Rattle.stages.specs.Stages.{keys, allows, formatField, sealed, validationWidth, validationField, offsetting, weak};
+ghost use Rattle.stages.specs.Answers.{keysRead, keysFault, sealedRead, sealedFault, offsettingRead, offsettingFault, weakStage, weakFault, formatRead, formatRefusal};
 use alphabet::Class;
 use fields::Cursor;
 use fields::Fault;
@@ -65,12 +65,6 @@ pub enum WeakStage {
     Bad(Fault),
 }
 
-// Where the trailer's mark stands, or the command's end where there is none.
-pub enum End {
-    At(usize),
-    Bad(Fault),
-}
-
 pub enum FormatRead {
     Got(Format, Cursor),
     Bad(Refusal),
@@ -117,17 +111,6 @@ impl WeakStage {
         match self {
             WeakStage::Got(_, _) => fields::no_fault(),
             WeakStage::Bad(fault) => fault,
-        }
-    }
-}
-
-impl End {
-    pub fn fault(self) -> Fault
-        ensures { λ r. ⌜ r ≡ endFault self ⌝ }
-    {
-        match self {
-            End::At(_) => fields::no_fault(),
-            End::Bad(fault) => fault,
         }
     }
 }
@@ -187,7 +170,6 @@ fn format_field(cursor: Cursor, command: &[u8], restricted: bool) -> FormatRead
     FormatRead::Got(format, next)
 }
 
-// Whether a format may stand in a command.
 fn allowed(restricted: bool, format: Format) -> bool
     ensures { λ r. ⌜ r ≡ allows restricted format ⌝ }
 {
@@ -223,7 +205,6 @@ pub fn read_sealed(command: &[u8], block: Cursor, field: usize, restricted: bool
     SealedRead::Got(sealed, next)
 }
 
-// How many characters the validation data at a place have.
 fn validation_width(cursor: Cursor, command: &[u8]) -> usize
     ensures { λ r. ⌜ r ≡ validationWidth (drop (cursor .at) (now (command .entry))) ⌝ }
 {
@@ -291,51 +272,4 @@ pub fn read_weak(command: &[u8], start: Cursor, field: usize, mark: u8) -> WeakS
         return WeakStage::Bad(fields::fault_at(listed.refusal(), field, start));
     };
     WeakStage::Got(weak, next)
-}
-
-// Whether the LMK ids that are present all agree.
-fn all_agree(keys: Keys, own: Lmk) -> bool
-    ensures { λ r. ⌜ r ≡ allAgree keys own ⌝ }
-{
-    let first = keys.first;
-    let second = keys.second;
-    if !first.agrees(second) {
-        return false;
-    }
-    if !first.agrees(own) {
-        return false;
-    }
-    second.agrees(own)
-}
-
-// The fault of ids that disagree: it stands at the last one that is present.
-fn last_id(keys: Keys, own: Lmk, field: usize, start: Cursor) -> Fault
-    ensures { λ r. ⌜ r ≡ lastId keys own field (start .at) ⌝ }
-{
-    if own.is_present() {
-        return fields::fault_at(Refusal::Field15, field, start);
-    }
-    fields::fault_at(Refusal::Field15, keys.field, Cursor { at: keys.place })
-}
-
-// LMK id and trailer; then nothing is left over, and the ids agree.
-pub fn read_end(command: &[u8], start: Cursor, field: usize, keys: Keys) -> End
-    requires { ⌜ field ≤ 64 ⌝ }
-    ensures { λ r. ⌜ r ≡ endOf (end field keys (now (command .entry)) (start .at)) ⌝ }
-{
-    let named = keys::lmk_field(start, command);
-    let Keyed::Got(own, mark) = named else {
-        return End::Bad(fields::fault_at(named.refusal(), field, start));
-    };
-    let trailing = mark.trailer(command);
-    let Value::Got(_, past) = trailing else {
-        return End::Bad(fields::fault_at(trailing.refusal(), field + 1, mark));
-    };
-    if past.at < command.len() {
-        return End::Bad(fields::fault_at(Refusal::Field15, 0, past));
-    }
-    if !all_agree(keys, own) {
-        return End::Bad(last_id(keys, own, field, start));
-    }
-    End::At(mark.at)
 }

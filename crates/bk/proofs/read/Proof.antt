@@ -2,7 +2,8 @@
 -- Assumes nothing.
 use mathlib.Core.Path.{sym, ap, _∙_}
 use borrow.Author.Needs.{needs}
-use Rattle.stages.specs.Answers.{keysFault, sealedFault, offsettingFault, weakFault, endFault}
+use Rattle.stages.specs.Answers.{keysFault, sealedFault, offsettingFault, weakFault}
+use Rattle.endings.specs.Answers.{endFault}
 use Rattle.bk.specs.Answers.{bkRead}
 use Rattle.bk.specs.declared.BkRead.the-variants.{Bad}
 use Rattle.bk.proofs.Reading.{no-keys, no-block, no-data, no-list, no-end, all-read}

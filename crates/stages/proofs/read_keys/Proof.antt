@@ -1,16 +1,14 @@
 -- `stages::read_keys` meets its contract.
 -- Assumes nothing.
-use Prim.Native.Nat.{ℕ, _+_}
+use Prim.Native.Nat.{_+_}
 use mathlib.Core.Path.{ap, sym, _∙_}
 use lib.ListN.{drop}
 use Rattle.numbers.specs.declared.Refusal.{Refusal}
-use Rattle.numbers.specs.declared.Refusal.the-variants.{Field15}
 use Rattle.keys.specs.Keys.{keyType, key}
 use Rattle.keys.specs.Answers.{refusalIn}
-use Rattle.keys.proofs.Laws.{typed-bad, typed-field-found, typed-field-bad, keyed-field-found, keyed-field-bad}
-use Rattle.stages.proofs.Ending.{type-refuses}
+use Rattle.keys.proofs.Laws.{typed-bad, type-refuses, typed-field-found, typed-field-bad, keyed-field-found, keyed-field-bad}
 use Rattle.stages.specs.Stages.{keys}
-use Rattle.stages.specs.declared.KeysRead.the-variants.{Got, Bad}
+use Rattle.stages.specs.declared.KeysRead.the-variants.{Bad}
 use borrow.Author.Needs.{needs}
 use Rattle.stages.proofs.read_keys.Statement.{statement}
 use Rattle.stages.proofs.read_keys.Tie as tie

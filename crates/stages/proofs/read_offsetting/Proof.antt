@@ -1,6 +1,6 @@
 -- `stages::read_offsetting` meets its contract.
 -- Assumes nothing.
-use Prim.Native.Nat.{ℕ, _+_}
+use Prim.Native.Nat.{_+_}
 use mathlib.Core.Path.{ap, sym, _∙_}
 use lib.ListN.{drop}
 use Rattle.alphabet.specs.declared.Class.the-variants.{Digit}
@@ -10,7 +10,7 @@ use Rattle.fields.specs.Answers.{refusalIn}
 use Rattle.fields.specs.Fields.{run, number}
 use Rattle.fields.proofs.Laws.{value-of-bad, run-refuses, number-refuses, field-found, field-bad}
 use Rattle.stages.specs.Stages.{offsetting, validationField}
-use Rattle.stages.specs.declared.OffsettingRead.the-variants.{Got, Bad}
+use Rattle.stages.specs.declared.OffsettingRead.the-variants.{Bad}
 use borrow.Author.Needs.{needs}
 use Rattle.stages.proofs.read_offsetting.Statement.{statement}
 use Rattle.stages.proofs.read_offsetting.Tie as tie

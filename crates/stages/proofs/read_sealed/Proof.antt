@@ -1,6 +1,6 @@
 -- `stages::read_sealed` meets its contract.
 -- Assumes nothing.
-use Prim.Native.Nat.{ℕ, _+_}
+use Prim.Native.Nat.{_+_}
 use mathlib.Core.Path.{ap, sym, _∙_}
 use lib.ListN.{drop}
 use Rattle.alphabet.specs.declared.Class.the-variants.{CapitalHex}
@@ -10,7 +10,7 @@ use Rattle.fields.specs.Fields.{run}
 use Rattle.fields.proofs.Laws.{value-of-bad, run-refuses, field-found, field-bad}
 use Rattle.stages.specs.Answers.{formatRefusal}
 use Rattle.stages.specs.Stages.{sealed, formatField}
-use Rattle.stages.specs.declared.SealedRead.the-variants.{Got, Bad}
+use Rattle.stages.specs.declared.SealedRead.the-variants.{Bad}
 use Rattle.stages.proofs.Reading.{format-field-found, format-field-bad}
 use borrow.Author.Needs.{needs}
 use Rattle.stages.proofs.read_sealed.Statement.{statement}

@@ -1,14 +1,12 @@
 -- `stages::read_weak` meets its contract.
 -- Assumes nothing.
-use Prim.Native.Nat.{ℕ}
 use mathlib.Core.Path.{ap, sym, _∙_}
 use Rattle.numbers.specs.declared.Refusal.{Refusal}
-use Rattle.fields.specs.Fields.{read}
 use Rattle.weak.specs.Weak.{weakField}
 use Rattle.weak.specs.Answers.{refusalIn}
 use Rattle.weak.proofs.Laws.{weak-field-found, weak-field-bad}
 use Rattle.stages.specs.Stages.{weak}
-use Rattle.stages.specs.declared.WeakStage.the-variants.{Got, Bad}
+use Rattle.stages.specs.declared.WeakStage.the-variants.{Bad}
 use borrow.Author.Needs.{needs}
 use Rattle.stages.proofs.read_weak.Statement.{statement}
 use Rattle.stages.proofs.read_weak.Tie as tie

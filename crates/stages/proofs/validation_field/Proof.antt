@@ -1,11 +1,9 @@
 -- `stages::validation_field` meets its contract.
 -- Assumes nothing.
-use Prim.Native.Nat.{ℕ, _+_}
 use native.Mathlib.Omega.{arith}
-use mathlib.Core.Path.{ap, sym, _∙_}
+use mathlib.Core.Path.{sym, _∙_}
 use lib.ListN.{drop}
 use Rattle.validation.proofs.Laws.{shape-template, shape-whole, shape-neither}
-use Rattle.stages.specs.Stages.{validationField, validationWidth}
 use Rattle.stages.proofs.Reading.{width-bounds, validation-short, validation-whole, validation-wrong}
 use borrow.Author.Needs.{needs}
 use Rattle.stages.proofs.validation_field.Statement.{statement}

@@ -1,9 +1,9 @@
--- `stages::last_id` meets its contract.
+-- `endings::last_id` meets its contract.
 -- Assumes nothing.
 use mathlib.Core.Path.{sym, _∙_}
 use borrow.Author.Needs.{needs}
-use Rattle.stages.proofs.last_id.Statement.{statement}
-use Rattle.stages.proofs.last_id.Tie as tie
+use Rattle.endings.proofs.last_id.Statement.{statement}
+use Rattle.endings.proofs.last_id.Tie as tie
 
 is-present-requires : tie.Need-is-present-requires
 is-present-requires c κs = search needs

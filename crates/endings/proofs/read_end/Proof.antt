@@ -1,7 +1,6 @@
--- `stages::read_end` meets its contract.
+-- `endings::read_end` meets its contract.
 -- Assumes nothing.
-use Prim.Native.Nat.{ℕ, _+_}
-use native.Mathlib.Omega.{arith}
+use Prim.Native.Nat.{_+_}
 use mathlib.Core.Path.{ap, sym, _∙_}
 use borrow.Author.Tests.{not-true, not-false}
 use Rattle.numbers.specs.declared.Refusal.{Refusal}
@@ -11,12 +10,12 @@ use Rattle.fields.proofs.Laws.{field-found, field-bad}
 use Rattle.keys.specs.Keys.{lmkField}
 use Rattle.keys.specs.Answers as keyed
 use Rattle.keys.proofs.Laws.{keyed-field-found, keyed-field-bad}
-use Rattle.stages.proofs.Ending.{closed-over, closed-apart, closed-whole}
-use Rattle.stages.specs.Stages.{end}
-use Rattle.stages.specs.declared.End.the-variants.{Bad}
+use Rattle.endings.proofs.Laws.{closed-over, closed-apart, closed-whole}
+use Rattle.endings.specs.Endings.{end}
+use Rattle.endings.specs.declared.End.the-variants.{Bad}
 use borrow.Author.Needs.{needs}
-use Rattle.stages.proofs.read_end.Statement.{statement}
-use Rattle.stages.proofs.read_end.Tie as tie
+use Rattle.endings.proofs.read_end.Statement.{statement}
+use Rattle.endings.proofs.read_end.Tie as tie
 
 lmk-field-requires : tie.Need-lmk-field-requires
 lmk-field-requires c κs = search needs

@@ -1,10 +1,10 @@
--- `stages::all_agree` meets its contract.
+-- `endings::all_agree` meets its contract.
 -- Assumes nothing.
 use mathlib.Core.Path.{sym, _∙_}
 use borrow.Author.Tests.{not-true, not-false}
 use borrow.Author.Needs.{needs}
-use Rattle.stages.proofs.all_agree.Statement.{statement}
-use Rattle.stages.proofs.all_agree.Tie as tie
+use Rattle.endings.proofs.all_agree.Statement.{statement}
+use Rattle.endings.proofs.all_agree.Tie as tie
 
 agrees-requires : tie.Need-agrees-requires
 agrees-requires c κs = search needs

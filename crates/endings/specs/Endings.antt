@@ -1,0 +1,38 @@
+-- The end of a command: LMK id, trailer, nothing left over, ids agree. It is told its first field's number.
+use Prim.Native.Nat.{ℕ, _+_}
+use mathlib.Core.List.{List}
+use mathlib.Core.Bool.{Bool, _&&_, cond}
+use lib.ListN.{length}
+use lib.Dec.{leb}
+use Rattle.numbers.specs.declared.Refusal.the-variants.{Field15}
+use Rattle.fields.specs.Fields.{Stage, read, faulty, field, trailer}
+use Rattle.fields.specs.declared.Fault.{Fault}
+use Rattle.keys.specs.Keys.{lmkField, agree, present}
+use Rattle.keys.specs.declared.Lmk.{Lmk}
+use Rattle.stages.specs.declared.Keys.{Keys}
+
+-- "LMK ids present in fields 2, 3 and 11 must all agree"
+abbrev pub allAgree : Keys → Lmk → Bool
+allAgree ks own = agree (ks .first) (ks .second) && (agree (ks .first) own && agree (ks .second) own)
+
+-- the last id that is present: its field's number and place
+abbrev pub lastId : Keys → Lmk → ℕ → ℕ → Fault
+lastId ks own first at =
+    cond (present own)
+    (record { refusal = Field15; field = first; place = at })
+    (record { refusal = Field15; field = ks .field; place = ks .place })
+
+-- "anything left over" is 15; then "LMK ids … must all agree, else 15"
+abbrev pub closed : Keys → Lmk → ℕ → ℕ → List ℕ → ℕ → ℕ → Stage ℕ
+closed ks own first at s mark past =
+    cond (leb (length s) past)
+    (cond (allAgree ks own) (read mark past) (faulty (lastId ks own first at)))
+    (faulty (record { refusal = Field15; field = 0; place = past }))
+
+-- "11. Optional % and LMK id 00 to 09"; "12. Optional byte 19 hex and a trailer". What is read is the place of the trailer's mark: from
+-- there on the command is its trailer, with its mark, or nothing
+unfoldable pub end : ℕ → Keys → List ℕ → ℕ → Stage ℕ
+end first ks s at =
+    field first lmkField s at
+    (λ own mark. field (first + 1) trailer s mark
+    (λ _ past. closed ks own first at s mark past))
