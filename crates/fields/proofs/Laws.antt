@@ -19,7 +19,7 @@ use Rattle.numbers.specs.Numbers.{done, refused, andThen, unless}
 use Rattle.numbers.proofs.Laws.{then-done, passed}
 use Rattle.numbers.specs.declared.Refusal.{Refusal}
 use Rattle.numbers.specs.declared.Refusal.the-variants.{Field15}
-use Rattle.fields.specs.Fields.{Found, run, twoDigits, number, marked, behind, atMost, trailer, Stage, faulty, fielded, field}
+use Rattle.fields.specs.Fields.{Found, run, twoDigits, number, marked, behind, atMost, trailer, Stage, faulty, field}
 use Rattle.fields.specs.Answers.{cursorAt, valueFrom, markFrom}
 use Rattle.fields.specs.declared.Cursor.{Cursor}
 use Rattle.fields.specs.declared.Value.{Value}
@@ -179,20 +179,14 @@ value-behind at n (refused q) = refl
 
 -- ---- fields one after the other
 
-module _ {B : Type 0} (k at : ℕ) (next : ℕ → ℕ → Stage B) where
-  -- the same of any outcome
-  fielded-found : (o : Found ℕ) (v : ℕ) (c : Cursor) → Got v c ≡ valueFrom at o → fielded k at o next ≡ next v (c .at)
-  fielded-found (done (w, n)) v c e = let a : w ≡ v = cc in let b : cursorAt (at + n) ≡ c = cc in rw (a, ← b)
-  fielded-found (refused q) v c e = absurd (let z : _≡_ {A = ℕ} 0 1 = cc in omega arith)
+module _ {A B : Type 0} (k at : ℕ) (next : A → ℕ → Stage B) (reader : List ℕ → Found A) (s : List ℕ) where
+  -- where a value was found, so many characters ago, the next field begins at the cursor
+  pub field-found : (a : A) (c : Cursor) → (n : ℕ) × (reader (drop at s) ≡ done (a, n)) × (c ≡ cursorAt (at + n)) → field k reader s at next ≡ next a (c .at)
+  field-found a c (n, e, f) = rw (e, f)
 
-  -- where the code found the field, the next one begins at its cursor
-  pub field-found : (reader : List ℕ → Found ℕ) (s : List ℕ) (v : ℕ) (c : Cursor) → Got v c ≡ valueFrom at (reader (drop at s)) → field k reader s at next ≡ next v (c .at)
-  field-found reader s v c e = fielded-found (reader (drop at s)) v c e
-
-  -- where it did not, that is the fault
-  pub field-bad : (reader : List ℕ → Found ℕ) (s : List ℕ) (q : Refusal) → Bad q ≡ valueFrom at (reader (drop at s))
-      → field k reader s at next ≡ faulty (record { refusal = q; field = k; place = at })
-  field-bad reader s q e = rw (value-of-bad at (reader (drop at s)) q e)
+  -- where none was, that is the fault
+  pub field-bad : (q : Refusal) → reader (drop at s) ≡ refused q → field k reader s at next ≡ faulty (record { refusal = q; field = k; place = at })
+  field-bad q e = rw e
 
 -- ---- what the code's answer tells of the characters ahead
 

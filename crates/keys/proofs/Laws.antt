@@ -18,7 +18,7 @@ use Rattle.numbers.specs.Numbers.{done, refused, andThen, unless}
 use Rattle.numbers.proofs.Laws.{then-done, passed, value-of}
 use Rattle.numbers.specs.declared.Refusal.{Refusal}
 use Rattle.numbers.specs.declared.Refusal.the-variants.{Field15, Key26, Use29}
-use Rattle.fields.specs.Fields.{Found, run, number, marked, behind, Stage, faulty, field}
+use Rattle.fields.specs.Fields.{Found, run, number, marked, behind}
 use Rattle.fields.specs.Answers.{cursorAt, valueFrom, markFrom}
 use Rattle.fields.specs.declared.Cursor.{Cursor}
 use Rattle.fields.specs.declared.Value.the-variants.{Got, Bad}
@@ -84,35 +84,6 @@ type-refuses cs q e = by-types (begins type001 cs) (begins type002 cs) (begins t
   by-types false true c h = absurd (not-done h)
   by-types false false true h = absurd (not-done h)
   by-types false false false h = cc
-
--- ---- fields one after the other
-
-module _ {A B : Type 0} (k at : ℕ) (next : A → ℕ → Stage B) (reader : List ℕ → Found A) (s : List ℕ) where
-  -- behind a field that was found the next one begins
-  pub any-found : (a : A) (n : ℕ) (c : Cursor) → reader (drop at s) ≡ done (a, n) → c ≡ cursorAt (at + n) → field k reader s at next ≡ next a (c .at)
-  any-found a n c e f = rw (e, f)
-
-  -- one that was not is the fault
-  pub any-bad : (q : Refusal) → reader (drop at s) ≡ refused q → field k reader s at next ≡ faulty (record { refusal = q; field = k; place = at })
-  any-bad q e = rw e
-
-module _ {B : Type 0} (k at : ℕ) (next : Lmk → ℕ → Stage B) (reader : List ℕ → Found Lmk) (s : List ℕ) where
-  -- where the code found a key or an LMK id, the next field begins at its cursor
-  pub keyed-field-found : (l : Lmk) (c : Cursor) → keyed.Got l c ≡ keyedFrom at (reader (drop at s)) → field k reader s at next ≡ next l (c .at)
-  keyed-field-found l c e = let f = keyed-found at (reader (drop at s)) l c e in any-found k at next reader s l (f .0) c (f .1) (f .2)
-
-  -- where it did not, that is the fault
-  pub keyed-field-bad : (q : Refusal) → keyed.Bad q ≡ keyedFrom at (reader (drop at s)) → field k reader s at next ≡ faulty (record { refusal = q; field = k; place = at })
-  keyed-field-bad q e = any-bad k at next reader s q (keyed-bad at (reader (drop at s)) q e)
-
-module _ {B : Type 0} (k at : ℕ) (next : Letters → ℕ → Stage B) (reader : List ℕ → Found Letters) (s : List ℕ) where
-  -- where the code found a key type, the next field begins at its cursor
-  pub typed-field-found : (l : Letters) (c : Cursor) → typed.Got l c ≡ typedFrom at (reader (drop at s)) → field k reader s at next ≡ next l (c .at)
-  typed-field-found l c e = let f = typed-found at (reader (drop at s)) l c e in any-found k at next reader s l (f .0) c (f .1) (f .2)
-
-  -- where it did not, that is the fault
-  pub typed-field-bad : (q : Refusal) → typed.Bad q ≡ typedFrom at (reader (drop at s)) → field k reader s at next ≡ faulty (record { refusal = q; field = k; place = at })
-  typed-field-bad q e = any-bad k at next reader s q (typed-bad at (reader (drop at s)) q e)
 
 -- ---- the version and the length of a key block
 

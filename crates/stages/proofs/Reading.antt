@@ -12,10 +12,9 @@ use Rattle.numbers.specs.Numbers.{done, refused}
 use Rattle.numbers.specs.declared.Refusal.{Refusal}
 use Rattle.numbers.specs.declared.Refusal.the-variants.{Field15}
 use Rattle.formats.specs.declared.Format.{Format}
-use Rattle.fields.specs.Fields.{Found, Stage, faulty, field, marked}
+use Rattle.fields.specs.Fields.{Found, marked}
 use Rattle.fields.specs.Answers.{cursorAt, valueFrom}
 use Rattle.fields.specs.declared.Value.the-variants as value
-use Rattle.keys.proofs.Laws.{any-found, any-bad}
 use Rattle.validation.specs.Validation.{isValidation}
 use Rattle.stages.specs.Stages.{validationWidth, validationField}
 use Rattle.fields.specs.declared.Cursor.{Cursor}
@@ -33,15 +32,6 @@ format-found at (refused q) f c e = absurd (let z : _≡_ {A = ℕ} 0 1 = cc in 
 pub format-bad : (at : ℕ) (o : Found Format) (q : Refusal) → Bad q ≡ formatRead at o → o ≡ refused q
 format-bad at (done r) q e = absurd (let z : _≡_ {A = ℕ} 0 1 = cc in omega arith)
 format-bad at (refused p) q e = cc
-
-module _ {B : Type 0} (k at : ℕ) (next : Format → ℕ → Stage B) (reader : List ℕ → Found Format) (s : List ℕ) where
-  -- where the code found the format, the next field begins at its cursor
-  pub format-field-found : (f : Format) (c : Cursor) → Got f c ≡ formatRead at (reader (drop at s)) → field k reader s at next ≡ next f (c .at)
-  format-field-found f c e = let r = format-found at (reader (drop at s)) f c e in any-found k at next reader s f (r .0) c (r .1) (r .2)
-
-  -- where it did not, that is the fault
-  pub format-field-bad : (q : Refusal) → Bad q ≡ formatRead at (reader (drop at s)) → field k reader s at next ≡ faulty (record { refusal = q; field = k; place = at })
-  format-field-bad q e = any-bad k at next reader s q (format-bad at (reader (drop at s)) q e)
 
 -- ---- validation data
 

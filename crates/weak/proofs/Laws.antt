@@ -18,7 +18,7 @@ use Rattle.numbers.specs.Numbers.{done, refused, andThen}
 use Rattle.numbers.proofs.Laws.{then-done, value-of}
 use Rattle.numbers.specs.declared.Refusal.{Refusal}
 use Rattle.numbers.specs.declared.Refusal.the-variants.{WeakList03, Field15}
-use Rattle.fields.specs.Fields.{Found, run, number, marked, Stage, faulty, fielded, field}
+use Rattle.fields.specs.Fields.{Found, run, number, marked}
 use Rattle.fields.specs.Answers.{cursorAt, valueFrom, markFrom}
 use Rattle.fields.specs.declared.Cursor.{Cursor}
 use Rattle.fields.specs.declared.Value.the-variants as value
@@ -142,21 +142,6 @@ weak-found at (refused q) w c e = absurd (let z : _≡_ {A = ℕ} 0 1 = cc in om
 pub weak-bad : (at : ℕ) (o : Found Weak) (q : Refusal) → Bad q ≡ weakFrom at o → o ≡ refused q
 weak-bad at (done r) q e = absurd (let z : _≡_ {A = ℕ} 0 1 = cc in omega arith)
 weak-bad at (refused p) q e = cc
-
-module _ {B : Type 0} (k at : ℕ) (next : Weak → ℕ → Stage B) where
-  -- the same of any outcome
-  fielded-found : (o : Found Weak) (w : Weak) (c : Cursor) → Got w c ≡ weakFrom at o → fielded k at o next ≡ next w (c .at)
-  fielded-found (done (v, n)) w c e = let a : v ≡ w = cc in let b : cursorAt (at + n) ≡ c = cc in rw (a, ← b)
-  fielded-found (refused q) w c e = absurd (let z : _≡_ {A = ℕ} 0 1 = cc in omega arith)
-
-  -- where the code found the field, the next one begins at its cursor
-  pub weak-field-found : (reader : List ℕ → Found Weak) (s : List ℕ) (w : Weak) (c : Cursor) → Got w c ≡ weakFrom at (reader (drop at s)) → field k reader s at next ≡ next w (c .at)
-  weak-field-found reader s w c e = fielded-found (reader (drop at s)) w c e
-
-  -- where it did not, that is the fault
-  pub weak-field-bad : (reader : List ℕ → Found Weak) (s : List ℕ) (q : Refusal) → Bad q ≡ weakFrom at (reader (drop at s))
-      → field k reader s at next ≡ faulty (record { refusal = q; field = k; place = at })
-  weak-field-bad reader s q e = rw (weak-bad at (reader (drop at s)) q e)
 
 -- ---- what a field that was found tells of the characters ahead
 

@@ -6,10 +6,10 @@ use borrow.Author.Tests.{not-true, not-false}
 use Rattle.numbers.specs.declared.Refusal.{Refusal}
 use Rattle.fields.specs.Fields.{trailer}
 use Rattle.fields.specs.Answers as values
-use Rattle.fields.proofs.Laws.{field-found, field-bad}
+use Rattle.fields.proofs.Laws.{value-of-found, value-of-bad, field-found, field-bad}
 use Rattle.keys.specs.Keys.{lmkField}
 use Rattle.keys.specs.Answers as keyed
-use Rattle.keys.proofs.Laws.{keyed-field-found, keyed-field-bad}
+use Rattle.keys.proofs.Laws.{keyed-found, keyed-bad}
 use Rattle.endings.proofs.Laws.{closed-over, closed-apart, closed-whole}
 use Rattle.endings.specs.Endings.{end}
 use Rattle.endings.specs.declared.End.the-variants.{Bad}
@@ -38,7 +38,7 @@ returns c =
     let a = c .before .before .before .before .before .before .args in
     let s = a .command .now in
     let told = c .before .before .enum-told .given .1 in
-    rw (keyed-field-bad (a .field) (a .start .at) _ lmkField s _ (sym told ∙ c .before .before .before .before .lmk-field .ensures))
+    rw (field-bad (a .field) (a .start .at) _ lmkField s _ (keyed-bad _ _ _ (sym told ∙ c .before .before .before .before .lmk-field .ensures)))
     (ap Bad (c .fault-at .ensures ∙ ap (λ (q : Refusal). record { refusal = q; field = a .field; place = a .start .at }) (c .before .refusal .ensures ∙ ap keyed.refusalIn told)))
 
 trailer-requires : tie.Need-trailer-requires
@@ -67,8 +67,8 @@ returns-2 c =
     let mark = c .before .before .before .before .before .before .named .given .0 .1 .0 in
     let told = c .before .before .enum-told2 .given .1 in
     rw (
-      keyed-field-found (a .field) (a .start .at) _ lmkField s _ mark (sym (c .before .before .before .before .before .before .named .given .1) ∙ c .before .before .before .before .before .before .before .before .lmk-field .ensures),
-      field-bad (a .field + 1) (mark .at) _ trailer s _ (sym told ∙ c .before .before .before .before .trailer .ensures),
+      field-found (a .field) (a .start .at) _ lmkField s _ mark (keyed-found _ _ _ _ (sym (c .before .before .before .before .before .before .named .given .1) ∙ c .before .before .before .before .before .before .before .before .lmk-field .ensures)),
+      field-bad (a .field + 1) (mark .at) _ trailer s _ (value-of-bad _ _ _ (sym told ∙ c .before .before .before .before .trailer .ensures)),
     )
     (ap Bad (c .fault-at2 .ensures ∙ ap (λ (q : Refusal). record { refusal = q; field = a .field + 1; place = mark .at }) (c .before .refusal2 .ensures ∙ ap values.refusalIn told)))
 
@@ -84,8 +84,8 @@ returns-3 c =
     let mark = c .before .before .before .before .before .before .before .before .named .given .0 .1 .0 in
     let past = c .before .before .before .before .trailing .given .0 .1 .0 in
     rw (
-      keyed-field-found (a .field) (a .start .at) _ lmkField s own mark (sym (c .before .before .before .before .before .before .before .before .named .given .1) ∙ c .before .before .before .before .before .before .before .before .before .before .lmk-field .ensures),
-      field-found (a .field + 1) (mark .at) _ trailer s _ past (sym (c .before .before .before .before .trailing .given .1) ∙ c .before .before .before .before .before .before .trailer .ensures),
+      field-found (a .field) (a .start .at) _ lmkField s own mark (keyed-found _ _ _ _ (sym (c .before .before .before .before .before .before .before .before .named .given .1) ∙ c .before .before .before .before .before .before .before .before .before .before .lmk-field .ensures)),
+      field-found (a .field + 1) (mark .at) _ trailer s _ past (value-of-found _ _ _ _ (sym (c .before .before .before .before .trailing .given .1) ∙ c .before .before .before .before .before .before .trailer .ensures)),
       closed-over (a .keys) own (a .field) (a .start .at) s (mark .at) (past .at) (c .before .if1 .taken),
     )
     (ap Bad (c .fault-at3 .ensures))
@@ -105,8 +105,8 @@ returns-4 c =
     let mark = c .before .before .before .before .before .before .before .before .before .before .named .given .0 .1 .0 in
     let past = c .before .before .before .before .before .before .trailing .given .0 .1 .0 in
     rw (
-      keyed-field-found (a .field) (a .start .at) _ lmkField s own mark (sym (c .before .before .before .before .before .before .before .before .before .before .named .given .1) ∙ c .before .before .before .before .before .before .before .before .before .before .before .before .lmk-field .ensures),
-      field-found (a .field + 1) (mark .at) _ trailer s _ past (sym (c .before .before .before .before .before .before .trailing .given .1) ∙ c .before .before .before .before .before .before .before .before .trailer .ensures),
+      field-found (a .field) (a .start .at) _ lmkField s own mark (keyed-found _ _ _ _ (sym (c .before .before .before .before .before .before .before .before .before .before .named .given .1) ∙ c .before .before .before .before .before .before .before .before .before .before .before .before .lmk-field .ensures)),
+      field-found (a .field + 1) (mark .at) _ trailer s _ past (value-of-found _ _ _ _ (sym (c .before .before .before .before .before .before .trailing .given .1) ∙ c .before .before .before .before .before .before .before .before .trailer .ensures)),
       closed-apart (a .keys) own (a .field) (a .start .at) s (mark .at) (past .at) (c .before .before .before .if1 .left) (sym (c .before .before .all-agree .ensures) ∙ not-true (c .before .before .all-agree .result) (c .before .if2 .taken)),
     )
     (ap Bad (c .last-id .ensures))
@@ -120,8 +120,8 @@ returns-5 c =
     let mark = c .before .before .before .before .before .before .before .before .before .named .given .0 .1 .0 in
     let past = c .before .before .before .before .before .trailing .given .0 .1 .0 in
     rw (
-      keyed-field-found (a .field) (a .start .at) _ lmkField s own mark (sym (c .before .before .before .before .before .before .before .before .before .named .given .1) ∙ c .before .before .before .before .before .before .before .before .before .before .before .lmk-field .ensures),
-      field-found (a .field + 1) (mark .at) _ trailer s _ past (sym (c .before .before .before .before .before .trailing .given .1) ∙ c .before .before .before .before .before .before .before .trailer .ensures),
+      field-found (a .field) (a .start .at) _ lmkField s own mark (keyed-found _ _ _ _ (sym (c .before .before .before .before .before .before .before .before .before .named .given .1) ∙ c .before .before .before .before .before .before .before .before .before .before .before .lmk-field .ensures)),
+      field-found (a .field + 1) (mark .at) _ trailer s _ past (value-of-found _ _ _ _ (sym (c .before .before .before .before .before .trailing .given .1) ∙ c .before .before .before .before .before .before .before .trailer .ensures)),
       closed-whole (a .keys) own (a .field) (a .start .at) s (mark .at) (past .at) (c .before .before .if1 .left) (sym (c .before .all-agree .ensures) ∙ not-false (c .before .all-agree .result) (c .if2 .left)),
     )
 

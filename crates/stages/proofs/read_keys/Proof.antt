@@ -4,9 +4,10 @@ use Prim.Native.Nat.{_+_}
 use mathlib.Core.Path.{ap, sym, _∙_}
 use lib.ListN.{drop}
 use Rattle.numbers.specs.declared.Refusal.{Refusal}
+use Rattle.fields.proofs.Laws.{field-found, field-bad}
 use Rattle.keys.specs.Keys.{keyType, key}
 use Rattle.keys.specs.Answers.{refusalIn}
-use Rattle.keys.proofs.Laws.{typed-bad, type-refuses, typed-field-found, typed-field-bad, keyed-field-found, keyed-field-bad}
+use Rattle.keys.proofs.Laws.{typed-found, typed-bad, type-refuses, keyed-found, keyed-bad}
 use Rattle.stages.specs.Stages.{keys}
 use Rattle.stages.specs.declared.KeysRead.the-variants.{Bad}
 use borrow.Author.Needs.{needs}
@@ -30,9 +31,9 @@ unfolding keys
 returns c =
     let a = c .before .before .before .before .before .args in
     let s = a .command .now in
-    let bad = sym (c .before .enum-told .given .1) ∙ c .before .before .before .key-type .ensures in
-    let number = type-refuses (drop (a .start .at) s) _ (typed-bad (a .start .at) (keyType (drop (a .start .at) s)) _ bad) in
-    rw (typed-field-bad (a .field) (a .start .at) _ keyType s _ bad)
+    let bad = typed-bad (a .start .at) (keyType (drop (a .start .at) s)) _ (sym (c .before .enum-told .given .1) ∙ c .before .before .before .key-type .ensures) in
+    let number = type-refuses (drop (a .start .at) s) _ bad in
+    rw (field-bad (a .field) (a .start .at) _ keyType s _ bad)
     (ap Bad (c .fault-at .ensures ∙ ap (λ (q : Refusal). record { refusal = q; field = a .field; place = a .start .at }) (sym number)))
 
 key-field-requires : tie.Need-key-field-requires
@@ -62,8 +63,8 @@ returns-2 c =
     let behind = c .before .before .before .before .before .before .typed .given .0 .1 .0 in
     let told = c .before .before .enum-told2 .given .1 in
     rw (
-      typed-field-found (a .field) (a .start .at) _ keyType s letters behind (sym (c .before .before .before .before .before .before .typed .given .1) ∙ c .before .before .before .before .before .before .before .before .key-type .ensures),
-      keyed-field-bad (a .field + 1) (behind .at) _ (key letters (a .first)) s _ (sym told ∙ c .before .before .before .before .key-field .ensures),
+      field-found (a .field) (a .start .at) _ keyType s letters behind (typed-found _ _ _ _ (sym (c .before .before .before .before .before .before .typed .given .1) ∙ c .before .before .before .before .before .before .before .before .key-type .ensures)),
+      field-bad (a .field + 1) (behind .at) _ (key letters (a .first)) s _ (keyed-bad _ _ _ (sym told ∙ c .before .before .before .before .key-field .ensures)),
     )
     (ap Bad (c .fault-at2 .ensures ∙ ap (λ (q : Refusal). record { refusal = q; field = a .field + 1; place = behind .at }) (c .before .refusal .ensures ∙ ap refusalIn told)))
 
@@ -95,9 +96,9 @@ returns-3 c =
     let second = c .before .before .before .before .before .before .one .given .0 .1 .0 in
     let told = c .before .before .enum-told3 .given .1 in
     rw (
-      typed-field-found (a .field) (a .start .at) _ keyType s letters behind (sym (c .before .before .before .before .before .before .before .before .before .before .typed .given .1) ∙ c .before .before .before .before .before .before .before .before .before .before .before .before .key-type .ensures),
-      keyed-field-found (a .field + 1) (behind .at) _ (key letters (a .first)) s _ second (sym (c .before .before .before .before .before .before .one .given .1) ∙ c .before .before .before .before .before .before .before .before .key-field .ensures),
-      keyed-field-bad (a .field + 2) (second .at) _ (key letters (a .second)) s _ (sym told ∙ c .before .before .before .before .key-field2 .ensures),
+      field-found (a .field) (a .start .at) _ keyType s letters behind (typed-found _ _ _ _ (sym (c .before .before .before .before .before .before .before .before .before .before .typed .given .1) ∙ c .before .before .before .before .before .before .before .before .before .before .before .before .key-type .ensures)),
+      field-found (a .field + 1) (behind .at) _ (key letters (a .first)) s _ second (keyed-found _ _ _ _ (sym (c .before .before .before .before .before .before .one .given .1) ∙ c .before .before .before .before .before .before .before .before .key-field .ensures)),
+      field-bad (a .field + 2) (second .at) _ (key letters (a .second)) s _ (keyed-bad _ _ _ (sym told ∙ c .before .before .before .before .key-field2 .ensures)),
     )
     (ap Bad (c .fault-at3 .ensures ∙ ap (λ (q : Refusal). record { refusal = q; field = a .field + 2; place = second .at }) (c .before .refusal2 .ensures ∙ ap refusalIn told)))
 
@@ -113,9 +114,9 @@ returns-4 c =
     let behind = c .before .before .before .before .before .before .before .before .before .typed .given .0 .1 .0 in
     let second = c .before .before .before .before .before .one .given .0 .1 .0 in
     rw (
-      typed-field-found (a .field) (a .start .at) _ keyType s letters behind (sym (c .before .before .before .before .before .before .before .before .before .typed .given .1) ∙ c .before .before .before .before .before .before .before .before .before .before .before .key-type .ensures),
-      keyed-field-found (a .field + 1) (behind .at) _ (key letters (a .first)) s _ second (sym (c .before .before .before .before .before .one .given .1) ∙ c .before .before .before .before .before .before .before .key-field .ensures),
-      keyed-field-found (a .field + 2) (second .at) _ (key letters (a .second)) s _ _ (sym (c .before .other .given .1) ∙ c .before .before .before .key-field2 .ensures),
+      field-found (a .field) (a .start .at) _ keyType s letters behind (typed-found _ _ _ _ (sym (c .before .before .before .before .before .before .before .before .before .typed .given .1) ∙ c .before .before .before .before .before .before .before .before .before .before .before .key-type .ensures)),
+      field-found (a .field + 1) (behind .at) _ (key letters (a .first)) s _ second (keyed-found _ _ _ _ (sym (c .before .before .before .before .before .one .given .1) ∙ c .before .before .before .before .before .before .before .key-field .ensures)),
+      field-found (a .field + 2) (second .at) _ (key letters (a .second)) s _ _ (keyed-found _ _ _ _ (sym (c .before .other .given .1) ∙ c .before .before .before .key-field2 .ensures)),
     )
 
 pub read-keys-spec : {M : Type 1} → statement M

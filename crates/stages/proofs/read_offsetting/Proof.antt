@@ -8,7 +8,7 @@ use Rattle.numbers.specs.declared.Refusal.{Refusal}
 use Rattle.numbers.specs.declared.Refusal.the-variants.{Field15, Table25}
 use Rattle.fields.specs.Answers.{refusalIn}
 use Rattle.fields.specs.Fields.{run, number}
-use Rattle.fields.proofs.Laws.{value-of-bad, run-refuses, number-refuses, field-found, field-bad}
+use Rattle.fields.proofs.Laws.{value-of-found, value-of-bad, run-refuses, number-refuses, field-found, field-bad}
 use Rattle.stages.specs.Stages.{offsetting, validationField}
 use Rattle.stages.specs.declared.OffsettingRead.the-variants.{Bad}
 use borrow.Author.Needs.{needs}
@@ -32,8 +32,8 @@ unfolding offsetting
 returns c =
     let a = c .before .before .before .before .before .args in
     let s = a .command .now in
-    let bad = sym (c .before .enum-told .given .1) ∙ c .before .before .before .number .ensures in
-    let refusal = number-refuses 4 12 Field15 (drop (a .start .at) s) _ (value-of-bad (a .start .at) (number 4 12 Field15 (drop (a .start .at) s)) _ bad) in
+    let bad = value-of-bad (a .start .at) (number 4 12 Field15 (drop (a .start .at) s)) _ (sym (c .before .enum-told .given .1) ∙ c .before .before .before .number .ensures) in
+    let refusal = number-refuses 4 12 Field15 (drop (a .start .at) s) _ bad in
     rw (field-bad (a .field) (a .start .at) _ (number 4 12 Field15) s _ bad)
     (ap Bad (c .fault-at .ensures ∙ ap (λ (q : Refusal). record { refusal = q; field = a .field; place = a .start .at }) (sym refusal)))
 
@@ -58,10 +58,10 @@ returns-2 c =
     let a = c .before .before .before .before .before .before .before .before .before .args in
     let s = a .command .now in
     let account = c .before .before .before .before .before .checked .given .0 .1 .0 in
-    let bad = sym (c .before .enum-told2 .given .1) ∙ c .before .before .before .run .ensures in
-    let refusal = run-refuses Digit Field15 12 (drop (account .at) s) _ (value-of-bad (account .at) (run Digit Field15 Field15 12 (drop (account .at) s)) _ bad) in
+    let bad = value-of-bad (account .at) (run Digit Field15 Field15 12 (drop (account .at) s)) _ (sym (c .before .enum-told2 .given .1) ∙ c .before .before .before .run .ensures) in
+    let refusal = run-refuses Digit Field15 12 (drop (account .at) s) _ bad in
     rw (
-      field-found (a .field) (a .start .at) _ (number 4 12 Field15) s _ account (sym (c .before .before .before .before .before .checked .given .1) ∙ c .before .before .before .before .before .before .before .number .ensures),
+      field-found (a .field) (a .start .at) _ (number 4 12 Field15) s _ account (value-of-found _ _ _ _ (sym (c .before .before .before .before .before .checked .given .1) ∙ c .before .before .before .before .before .before .before .number .ensures)),
       field-bad (a .field + 1) (account .at) _ (run Digit Field15 Field15 12) s _ bad,
     )
     (ap Bad (c .fault-at2 .ensures ∙ ap (λ (q : Refusal). record { refusal = q; field = a .field + 1; place = account .at }) (sym refusal)))
@@ -93,9 +93,9 @@ returns-3 c =
     let table = c .before .before .before .before .before .before .digits .given .0 .1 .0 in
     let told = c .before .before .enum-told3 .given .1 in
     rw (
-      field-found (a .field) (a .start .at) _ (number 4 12 Field15) s _ account (sym (c .before .before .before .before .before .before .before .before .before .before .checked .given .1) ∙ c .before .before .before .before .before .before .before .before .before .before .before .before .number .ensures),
-      field-found (a .field + 1) (account .at) _ (run Digit Field15 Field15 12) s _ table (sym (c .before .before .before .before .before .before .digits .given .1) ∙ c .before .before .before .before .before .before .before .before .run .ensures),
-      field-bad (a .field + 2) (table .at) _ (run Digit Field15 Table25 16) s _ (sym told ∙ c .before .before .before .before .run2 .ensures),
+      field-found (a .field) (a .start .at) _ (number 4 12 Field15) s _ account (value-of-found _ _ _ _ (sym (c .before .before .before .before .before .before .before .before .before .before .checked .given .1) ∙ c .before .before .before .before .before .before .before .before .before .before .before .before .number .ensures)),
+      field-found (a .field + 1) (account .at) _ (run Digit Field15 Field15 12) s _ table (value-of-found _ _ _ _ (sym (c .before .before .before .before .before .before .digits .given .1) ∙ c .before .before .before .before .before .before .before .before .run .ensures)),
+      field-bad (a .field + 2) (table .at) _ (run Digit Field15 Table25 16) s _ (value-of-bad _ _ _ (sym told ∙ c .before .before .before .before .run2 .ensures)),
     )
     (ap Bad (c .fault-at3 .ensures ∙ ap (λ (q : Refusal). record { refusal = q; field = a .field + 2; place = table .at }) (c .before .refusal .ensures ∙ ap refusalIn told)))
 
@@ -127,10 +127,10 @@ returns-4 c =
     let validation = c .before .before .before .before .before .before .decimals .given .0 .1 .0 in
     let told = c .before .before .enum-told4 .given .1 in
     rw (
-      field-found (a .field) (a .start .at) _ (number 4 12 Field15) s _ account (sym (c .before .before .before .before .before .before .before .before .before .before .before .before .before .before .checked .given .1) ∙ c .before .before .before .before .before .before .before .before .before .before .before .before .before .before .before .before .number .ensures),
-      field-found (a .field + 1) (account .at) _ (run Digit Field15 Field15 12) s _ table (sym (c .before .before .before .before .before .before .before .before .before .before .digits .given .1) ∙ c .before .before .before .before .before .before .before .before .before .before .before .before .run .ensures),
-      field-found (a .field + 2) (table .at) _ (run Digit Field15 Table25 16) s _ validation (sym (c .before .before .before .before .before .before .decimals .given .1) ∙ c .before .before .before .before .before .before .before .before .run2 .ensures),
-      field-bad (a .field + 3) (validation .at) _ validationField s _ (sym told ∙ c .before .before .before .before .validation-field .ensures),
+      field-found (a .field) (a .start .at) _ (number 4 12 Field15) s _ account (value-of-found _ _ _ _ (sym (c .before .before .before .before .before .before .before .before .before .before .before .before .before .before .checked .given .1) ∙ c .before .before .before .before .before .before .before .before .before .before .before .before .before .before .before .before .number .ensures)),
+      field-found (a .field + 1) (account .at) _ (run Digit Field15 Field15 12) s _ table (value-of-found _ _ _ _ (sym (c .before .before .before .before .before .before .before .before .before .before .digits .given .1) ∙ c .before .before .before .before .before .before .before .before .before .before .before .before .run .ensures)),
+      field-found (a .field + 2) (table .at) _ (run Digit Field15 Table25 16) s _ validation (value-of-found _ _ _ _ (sym (c .before .before .before .before .before .before .decimals .given .1) ∙ c .before .before .before .before .before .before .before .before .run2 .ensures)),
+      field-bad (a .field + 3) (validation .at) _ validationField s _ (value-of-bad _ _ _ (sym told ∙ c .before .before .before .before .validation-field .ensures)),
     )
     (ap Bad (c .fault-at4 .ensures ∙ ap (λ (q : Refusal). record { refusal = q; field = a .field + 3; place = validation .at }) (c .before .refusal2 .ensures ∙ ap refusalIn told)))
 
@@ -143,10 +143,10 @@ returns-5 c =
     let table = c .before .before .before .before .before .before .before .before .before .digits .given .0 .1 .0 in
     let validation = c .before .before .before .before .before .decimals .given .0 .1 .0 in
     rw (
-      field-found (a .field) (a .start .at) _ (number 4 12 Field15) s _ account (sym (c .before .before .before .before .before .before .before .before .before .before .before .before .before .checked .given .1) ∙ c .before .before .before .before .before .before .before .before .before .before .before .before .before .before .before .number .ensures),
-      field-found (a .field + 1) (account .at) _ (run Digit Field15 Field15 12) s _ table (sym (c .before .before .before .before .before .before .before .before .before .digits .given .1) ∙ c .before .before .before .before .before .before .before .before .before .before .before .run .ensures),
-      field-found (a .field + 2) (table .at) _ (run Digit Field15 Table25 16) s _ validation (sym (c .before .before .before .before .before .decimals .given .1) ∙ c .before .before .before .before .before .before .before .run2 .ensures),
-      field-found (a .field + 3) (validation .at) _ validationField s _ _ (sym (c .before .shaped .given .1) ∙ c .before .before .before .validation-field .ensures),
+      field-found (a .field) (a .start .at) _ (number 4 12 Field15) s _ account (value-of-found _ _ _ _ (sym (c .before .before .before .before .before .before .before .before .before .before .before .before .before .checked .given .1) ∙ c .before .before .before .before .before .before .before .before .before .before .before .before .before .before .before .number .ensures)),
+      field-found (a .field + 1) (account .at) _ (run Digit Field15 Field15 12) s _ table (value-of-found _ _ _ _ (sym (c .before .before .before .before .before .before .before .before .before .digits .given .1) ∙ c .before .before .before .before .before .before .before .before .before .before .before .run .ensures)),
+      field-found (a .field + 2) (table .at) _ (run Digit Field15 Table25 16) s _ validation (value-of-found _ _ _ _ (sym (c .before .before .before .before .before .decimals .given .1) ∙ c .before .before .before .before .before .before .before .run2 .ensures)),
+      field-found (a .field + 3) (validation .at) _ validationField s _ _ (value-of-found _ _ _ _ (sym (c .before .shaped .given .1) ∙ c .before .before .before .validation-field .ensures)),
     )
 
 pub read-offsetting-spec : {M : Type 1} → statement M

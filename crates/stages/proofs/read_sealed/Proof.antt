@@ -7,11 +7,11 @@ use Rattle.alphabet.specs.declared.Class.the-variants.{CapitalHex}
 use Rattle.numbers.specs.declared.Refusal.{Refusal}
 use Rattle.numbers.specs.declared.Refusal.the-variants.{Field15}
 use Rattle.fields.specs.Fields.{run}
-use Rattle.fields.proofs.Laws.{value-of-bad, run-refuses, field-found, field-bad}
+use Rattle.fields.proofs.Laws.{value-of-found, value-of-bad, run-refuses, field-found, field-bad}
 use Rattle.stages.specs.Answers.{formatRefusal}
 use Rattle.stages.specs.Stages.{sealed, formatField}
 use Rattle.stages.specs.declared.SealedRead.the-variants.{Bad}
-use Rattle.stages.proofs.Reading.{format-field-found, format-field-bad}
+use Rattle.stages.proofs.Reading.{format-found, format-bad}
 use borrow.Author.Needs.{needs}
 use Rattle.stages.proofs.read_sealed.Statement.{statement}
 use Rattle.stages.proofs.read_sealed.Tie as tie
@@ -34,8 +34,8 @@ returns c =
     let a = c .before .before .before .before .before .args in
     let s = a .command .now in
     let hex = run CapitalHex Field15 Field15 16 in
-    let bad = sym (c .before .enum-told .given .1) ∙ c .before .before .before .run .ensures in
-    let number = run-refuses CapitalHex Field15 16 (drop (a .block .at) s) _ (value-of-bad (a .block .at) (hex (drop (a .block .at) s)) _ bad) in
+    let bad = value-of-bad (a .block .at) (hex (drop (a .block .at) s)) _ (sym (c .before .enum-told .given .1) ∙ c .before .before .before .run .ensures) in
+    let number = run-refuses CapitalHex Field15 16 (drop (a .block .at) s) _ bad in
     rw (field-bad (a .field) (a .block .at) _ hex s _ bad)
     (ap Bad (c .fault-at .ensures ∙ ap (λ (q : Refusal). record { refusal = q; field = a .field; place = a .block .at }) (sym number)))
 
@@ -65,8 +65,8 @@ returns-2 c =
     let format = c .before .before .before .before .before .before .digits .given .0 .1 .0 in
     let told = c .before .before .enum-told2 .given .1 in
     rw (
-      field-found (a .field) (a .block .at) _ (run CapitalHex Field15 Field15 16) s _ format (sym (c .before .before .before .before .before .before .digits .given .1) ∙ c .before .before .before .before .before .before .before .before .run .ensures),
-      format-field-bad (a .field + 1) (format .at) _ (formatField (a .restricted)) s _ (sym told ∙ c .before .before .before .before .format-field .ensures),
+      field-found (a .field) (a .block .at) _ (run CapitalHex Field15 Field15 16) s _ format (value-of-found _ _ _ _ (sym (c .before .before .before .before .before .before .digits .given .1) ∙ c .before .before .before .before .before .before .before .before .run .ensures)),
+      field-bad (a .field + 1) (format .at) _ (formatField (a .restricted)) s _ (format-bad _ _ _ (sym told ∙ c .before .before .before .before .format-field .ensures)),
     )
     (ap Bad (c .fault-at2 .ensures ∙ ap (λ (q : Refusal). record { refusal = q; field = a .field + 1; place = format .at }) (c .before .refusal .ensures ∙ ap formatRefusal told)))
 
@@ -77,8 +77,8 @@ returns-3 c =
     let s = a .command .now in
     let format = c .before .before .before .before .before .digits .given .0 .1 .0 in
     rw (
-      field-found (a .field) (a .block .at) _ (run CapitalHex Field15 Field15 16) s _ format (sym (c .before .before .before .before .before .digits .given .1) ∙ c .before .before .before .before .before .before .before .run .ensures),
-      format-field-found (a .field + 1) (format .at) _ (formatField (a .restricted)) s _ _ (sym (c .before .chosen .given .1) ∙ c .before .before .before .format-field .ensures),
+      field-found (a .field) (a .block .at) _ (run CapitalHex Field15 Field15 16) s _ format (value-of-found _ _ _ _ (sym (c .before .before .before .before .before .digits .given .1) ∙ c .before .before .before .before .before .before .before .run .ensures)),
+      field-found (a .field + 1) (format .at) _ (formatField (a .restricted)) s _ _ (format-found _ _ _ _ (sym (c .before .chosen .given .1) ∙ c .before .before .before .format-field .ensures)),
     )
 
 pub read-sealed-spec : {M : Type 1} → statement M

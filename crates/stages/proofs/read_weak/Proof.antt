@@ -2,9 +2,10 @@
 -- Assumes nothing.
 use mathlib.Core.Path.{ap, sym, _∙_}
 use Rattle.numbers.specs.declared.Refusal.{Refusal}
+use Rattle.fields.proofs.Laws.{field-found, field-bad}
 use Rattle.weak.specs.Weak.{weakField}
 use Rattle.weak.specs.Answers.{refusalIn}
-use Rattle.weak.proofs.Laws.{weak-field-found, weak-field-bad}
+use Rattle.weak.proofs.Laws.{weak-found, weak-bad}
 use Rattle.stages.specs.Stages.{weak}
 use Rattle.stages.specs.declared.WeakStage.the-variants.{Bad}
 use borrow.Author.Needs.{needs}
@@ -31,14 +32,14 @@ unfolding weak
 returns c =
     let a = c .before .before .before .before .before .before .args in
     let told = c .before .before .enum-told .given .1 in
-    rw (weak-field-bad (a .field) (a .start .at) _ (weakField (a .mark) (a .start .at)) (a .command .now) _ (sym told ∙ c .before .before .before .before .weak-field .ensures))
+    rw (field-bad (a .field) (a .start .at) _ (weakField (a .mark) (a .start .at)) (a .command .now) _ (weak-bad _ _ _ (sym told ∙ c .before .before .before .before .weak-field .ensures)))
     (ap Bad (c .fault-at .ensures ∙ ap (λ (q : Refusal). record { refusal = q; field = a .field; place = a .start .at }) (c .before .refusal .ensures ∙ ap refusalIn told)))
 
 returns-2 : tie.Need-returns-2
 unfolding weak
 returns-2 c =
     let a = c .before .before .before .before .before .args in
-    rw (weak-field-found (a .field) (a .start .at) _ (weakField (a .mark) (a .start .at)) (a .command .now) _ _ (sym (c .before .listed .given .1) ∙ c .before .before .before .weak-field .ensures))
+    rw (field-found (a .field) (a .start .at) _ (weakField (a .mark) (a .start .at)) (a .command .now) _ _ (weak-found _ _ _ _ (sym (c .before .listed .given .1) ∙ c .before .before .before .weak-field .ensures)))
 
 pub read-weak-spec : {M : Type 1} → statement M
 read-weak-spec =
