@@ -3,7 +3,7 @@ ghost use mathlib.Core.Path.{_≡_};
 ghost use Prim.Native.Nat.{_+_, _≤_};
 ghost use lib.ListN.{drop};
 ghost use Rattle.nibbles.specs.Nibbles.{row};
-ghost use Rattle.weak.specs.Weak.{listed, weakField, isOn, weakPins};
+ghost use Rattle.weak.specs.Weak.{noneAt, listed, weakField, isOn, weakPins};
 ghost use Rattle.weak.specs.Answers.{weakFrom, refusalIn, Lies, lists};
 use alphabet::Class;
 use fields::Cursor;
@@ -36,18 +36,23 @@ impl WeakRead {
     }
 }
 
+fn none_at(start: usize) -> Weak
+    ensures { λ r. ⌜ r ≡ noneAt start ⌝ }
+{
+    Weak {
+        count: 0,
+        length: 0,
+        list: start,
+    }
+}
+
 // The length and the list behind a count; `start` is where the field begins.
 fn list_behind(start: usize, count: usize, cursor: Cursor, command: &[u8]) -> WeakRead
     requires { ⌜ (count ≤ 99) × (cursor .at ≡ start + 3) ⌝ }
     ensures { λ r. ⌜ r ≡ weakFrom start (listed start count (drop (cursor .at) (now (command .entry)))) ⌝ }
 {
     if count == 0 {
-        let none = Weak {
-            count: 0,
-            length: 0,
-            list: start,
-        };
-        return WeakRead::Got(none, cursor);
+        return WeakRead::Got(none_at(start), cursor);
     }
     let measured = cursor.number(command, 4, 12, Refusal::Field15);
     let Value::Got(length, list) = measured else {
@@ -73,12 +78,7 @@ pub fn weak_field(cursor: Cursor, command: &[u8], mark: u8) -> WeakRead
     let start = cursor.at;
     let marked = cursor.mark(command, mark);
     let Mark::Behind(digits) = marked else {
-        let none = Weak {
-            count: 0,
-            length: 0,
-            list: start,
-        };
-        return WeakRead::Got(none, cursor);
+        return WeakRead::Got(none_at(start), cursor);
     };
     let counted = digits.number(command, 0, 99, Refusal::WeakList03);
     let Value::Got(count, next) = counted else {

@@ -3,22 +3,26 @@
 use Prim.Native.Nat.{ℕ}
 use native.Mathlib.Nat.{mul-le-mul}
 use native.Mathlib.Omega.{arith}
-use mathlib.Core.Path.{sym, ap, _∙_}
+use mathlib.Core.Path.{sym, ap₂, _∙_}
 use borrow.Author.Needs.{needs}
 use Rattle.numbers.specs.declared.Refusal.the-variants.{Field15}
 use Rattle.fields.specs.Answers.{cursorAt}
 use Rattle.fields.proofs.Laws.{number-read}
 use lib.ListN.{drop}
-use Rattle.weak.specs.Weak.{noneAt}
+use Rattle.weak.specs.declared.Weak.{Weak}
 use Rattle.weak.specs.declared.WeakRead.the-variants.{Got}
 use Rattle.weak.proofs.Laws.{listed-none, behind-unmeasured, behind-short, behind-whole}
 use Rattle.weak.proofs.list_behind.Statement.{statement}
 use Rattle.weak.proofs.list_behind.Tie as tie
 
+none-at-requires : tie.Need-none-at-requires
+none-at-requires c κs = search needs
+
 returns : tie.Need-returns
 returns c =
-    let a = c .before .before .args in
-    rw (listed-none (a .start) (a .count) (drop (a .cursor .at) (a .command .now)) (c .if1 .taken)) (ap (λ (i : ℕ). Got (noneAt (a .start)) (cursorAt i)) (c .before .before .pre .1))
+    let a = c .before .before .before .args in
+    rw (listed-none (a .start) (a .count) (drop (a .cursor .at) (a .command .now)) (c .before .if1 .taken))
+    (ap₂ (λ (w : Weak) (i : ℕ). Got w (cursorAt i)) (c .none-at .ensures) (c .before .before .before .pre .1))
 
 number-requires : tie.Need-number-requires
 number-requires c κs = search needs
@@ -73,6 +77,7 @@ pub list-behind-spec : {M : Type 1} → statement M
 list-behind-spec =
     tie.close
     (tie.spec
+    none-at-requires
     returns
     number-requires
     enum-known-measured

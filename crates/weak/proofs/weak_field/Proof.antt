@@ -3,6 +3,8 @@
 use mathlib.Core.Path.{sym, ap, _∙_}
 use borrow.Author.Needs.{needs}
 use Rattle.weak.specs.Answers.{weakFrom}
+use Rattle.weak.specs.declared.Weak.{Weak}
+use Rattle.weak.specs.declared.WeakRead.the-variants.{Got}
 use Rattle.weak.proofs.Laws.{field-absent, field-uncounted, counted-behind, field-counted}
 use Rattle.weak.proofs.weak_field.Statement.{statement}
 use Rattle.weak.proofs.weak_field.Tie as tie
@@ -16,10 +18,14 @@ enum-known-marked c = search needs
 enum-told : tie.Need-enum-told
 enum-told c = search needs
 
+none-at-requires : tie.Need-none-at-requires
+none-at-requires c κs = search needs
+
 returns : tie.Need-returns
 returns c =
-    let a = c .before .before .before .before .args in
-    field-absent (a .mark) (a .cursor .at) (a .command .now) (sym (c .enum-told .given .1) ∙ c .before .before .mark .ensures)
+    let a = c .before .before .before .before .before .args in
+    ap (λ (w : Weak). Got w (a .cursor)) (c .none-at .ensures)
+    ∙ field-absent (a .mark) (a .cursor .at) (a .command .now) (sym (c .before .enum-told .given .1) ∙ c .before .before .before .mark .ensures)
 
 number-requires : tie.Need-number-requires
 number-requires c κs = search needs
@@ -56,6 +62,7 @@ weak-field-spec =
     mark-requires
     enum-known-marked
     enum-told
+    none-at-requires
     returns
     number-requires
     enum-known-counted
