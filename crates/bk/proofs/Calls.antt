@@ -22,10 +22,11 @@ use Rattle.keybox.specs.declared.Boxed.{Boxed}
 use Rattle.keybox.specs.declared.BoxRead.the-variants as box-read
 use Rattle.keybox.proofs.Laws.{box-found, box-bad}
 use Rattle.fields.specs.declared.Fault.{Fault}
-use Rattle.bk.proofs.Laws.{values-length, values-below, values-row}
+use Rattle.stages.specs.Stages.{accountIn, validationIn}
+use Rattle.stages.proofs.Laws.{values-length, values-below, values-row}
 use Rattle.bk.proofs.Places.{placed}
 use Rattle.bk.proofs.Reading.{fields-found, fields-bad}
-use Rattle.bk.specs.Bk.{bkFields, accountIn, validationIn, bkAsk, bkFinish, bkAnswer}
+use Rattle.bk.specs.Bk.{bkFields, bkAsk, bkFinish, bkAnswer}
 use Rattle.bk.specs.Answers.{Placed, bkRead, finishedOf}
 use Rattle.bk.specs.declared.Bk.{Bk}
 use Rattle.bk.specs.declared.BkRead.the-variants as fields
@@ -45,15 +46,15 @@ module _ (settings : Settings) (s : List ℕ) (at : ℕ) where
 
   -- the row that the validation data stand for is that of the block
   pub ask-row :
-      (p : Bk) → fields.Got p ≡ bkRead (bkFields (settings .restricted) s at) → (account : ℕ) → account ≡ word (accountIn s p)
-      → rowOf (validationRow (row 12 account) (validationIn s p)) ≡ blockOf (bkAsk settings s at)
+      (p : Bk) → fields.Got p ≡ bkRead (bkFields (settings .restricted) s at) → (account : ℕ) → account ≡ word (accountIn s (p .offsetting))
+      → rowOf (validationRow (row 12 account) (validationIn s (p .offsetting))) ≡ blockOf (bkAsk settings s at)
   unfolding bkAsk
   ask-row p e account a =
       let inside = found-placed (settings .restricted) s at p e .account in
       let from = p .offsetting .account in
       rw (fields-found (bkFields (settings .restricted) s at) p e .1, values-row s from 12 inside account a)
-      (row-block (validationRow (accountIn s p) (validationIn s p))
-      (λ ns. row-sixteen (accountIn s p) (validationIn s p) ns (values-length s from 12 inside) (values-below s from 12 inside)))
+      (row-block (validationRow (accountIn s (p .offsetting)) (validationIn s (p .offsetting)))
+      (λ ns. row-sixteen (accountIn s (p .offsetting)) (validationIn s (p .offsetting)) ns (values-length s from 12 inside) (values-below s from 12 inside)))
 
 -- ---- the answering call
 

@@ -1,16 +1,13 @@
 -- What the finish comes to, answer by answer.
 -- Assumes nothing.
-use Prim.Native.Nat.{ℕ, _+_, _^_, _≤_, _<_}
+use Prim.Native.Nat.{ℕ}
 use native.Mathlib.Omega.{arith}
 use mathlib.Core.Path.{_≡_, refl, sym, ap, ap₂, _∙_}
-use mathlib.Core.List.{List, map}
+use mathlib.Core.List.{List}
 use mathlib.Core.Bool.{Bool, true, false}
-use lib.ListN.{length, drop, length-map, length-drop}
-use lib.Seq.{length-take-le}
+use lib.ListN.{length}
 use Rattle.nibbles.specs.Nibbles.{word, row, every}
-use Rattle.nibbles.proofs.Laws.{Below, row-word, word-under, map-below, below-every}
-use Rattle.alphabet.specs.Alphabet.{valueOf}
-use Rattle.alphabet.proofs.Laws.{value-below}
+use Rattle.nibbles.proofs.Laws.{below-every}
 use Rattle.numbers.specs.Numbers.{Outcome, done, refused, andThen}
 use Rattle.numbers.specs.declared.Refusal.{Refusal}
 use Rattle.numbers.specs.declared.Refusal.the-variants.{Check81, Weak86}
@@ -27,26 +24,11 @@ use Rattle.offsets.specs.declared.Compared.{Compared}
 use Rattle.offsets.specs.declared.Comparison.the-variants as comparison
 use Rattle.offsets.proofs.Laws.{comparison-bad, with-natural-compared, covers-not}
 use Rattle.weak.specs.Weak.{isOn, weakPins}
-use Rattle.bk.specs.Bk.{part, accountIn, tableIn, bkFinish}
+use Rattle.stages.specs.Stages.{part, accountIn, tableIn}
+use Rattle.stages.proofs.Laws.{values-row}
+use Rattle.bk.specs.Bk.{bkFinish}
 use Rattle.bk.specs.Answers.{Placed}
 use Rattle.bk.specs.declared.Bk.{Bk}
-
--- ---- digits at a place
-
--- the values of a part of the command: as many as it has characters, and nibbles
-module _ (s : List ℕ) (from n : ℕ) (inside : from + n ≤ length s) where
-  pub values-length : length (map valueOf (part s from n)) ≡ n
-  values-length = length-map (part s from n) valueOf ∙ length-take-le n (drop from s) (rw length-drop (omega arith))
-
-  pub values-below : Below 16 (map valueOf (part s from n))
-  values-below = map-below 16 valueOf value-below (part s from n)
-
-  -- the word that holds them holds nothing else
-  pub values-row : (w : ℕ) → w ≡ word (map valueOf (part s from n)) → row n w ≡ map valueOf (part s from n)
-  values-row w e = ap (row n) e ∙ ap (λ (k : ℕ). row k (word (map valueOf (part s from n)))) (sym values-length) ∙ row-word (map valueOf (part s from n)) values-below
-
-  pub values-under : (w : ℕ) → w ≡ word (map valueOf (part s from n)) → w < 16 ^ n
-  values-under w e = rw e (word-under n (map valueOf (part s from n)) values-below (let l = values-length in omega arith))
 
 -- ---- the finish, answer by answer
 
@@ -62,23 +44,23 @@ long-only variable check pair q e = go (covers variable check (length (pair .0))
 
 module _
     (variable : Bool) (s : List ℕ) (p : Bk) (rows : Rows) (table : ℕ) (placed : Placed s p)
-    (account : rows .account ≡ word (accountIn s p)) (tabled : table ≡ word (tableIn s p)) where
+    (account : rows .account ≡ word (accountIn s (p .offsetting))) (tabled : table ≡ word (tableIn s (p .offsetting))) where
   -- the PIN and its natural PIN, as the code finds them
   abbrev pub found : Outcome (List ℕ × List ℕ)
   found = pinWithNatural (p .sealed .format) (row 16 table) (rowsIn rows)
 
   -- and as the definition has them
   abbrev pub meant : Outcome (List ℕ × List ℕ)
-  meant = pinWithNatural (p .sealed .format) (tableIn s p) (row 16 (rows .block), accountIn s p, row 16 (rows .enciphered))
+  meant = pinWithNatural (p .sealed .format) (tableIn s (p .offsetting)) (row 16 (rows .block), accountIn s (p .offsetting), row 16 (rows .enciphered))
 
   abbrev pub finished : Outcome (List ℕ)
   finished = bkFinish variable s p (row 16 (rows .block), row 16 (rows .enciphered))
 
-  table-row : row 16 table ≡ tableIn s p
+  table-row : row 16 table ≡ tableIn s (p .offsetting)
   table-row = values-row s (p .offsetting .table) 16 (placed .table) table tabled
 
   table-digits : every digit (row 16 table) ≡ true
-  table-digits = ap (every digit) table-row ∙ below-every 9 (tableIn s p) (digits-below (part s (p .offsetting .table) 16) (placed .digits))
+  table-digits = ap (every digit) table-row ∙ below-every 9 (tableIn s (p .offsetting)) (digits-below (part s (p .offsetting .table) 16) (placed .digits))
 
   alike : found ≡ meant
   alike =

@@ -28,15 +28,14 @@ use Rattle.fields.proofs.Reading.{onward-read, read-once}
 use Rattle.keys.specs.declared.Use.the-variants.{PinKey, Pvk}
 use Rattle.weak.specs.Weak.{isOn, weakPins}
 use Rattle.weak.specs.declared.Weak.{Weak}
-use Rattle.stages.specs.Stages.{keys, sealed, offsetting, weak}
+use Rattle.stages.specs.Stages.{keys, sealed, offsetting, weak, part, accountIn, tableIn, validationIn}
 use Rattle.stages.specs.declared.Keys.{Keys}
 use Rattle.stages.specs.declared.Sealed.{Sealed}
 use Rattle.stages.specs.declared.Offsetting.{Offsetting}
-use Rattle.stages.proofs.Laws.{offsetting-held, weak-held}
+use Rattle.stages.proofs.Laws.{values-length, values-below, offsetting-held, weak-held}
 use Rattle.endings.specs.Endings.{end}
 use Rattle.endings.proofs.Laws.{end-held}
-use Rattle.bk.proofs.Laws.{values-length, values-below}
-use Rattle.bk.specs.Bk.{weakMark, bkFields, part, accountIn, tableIn, validationIn, bkAsk, bkFinish, bkAnswer}
+use Rattle.bk.specs.Bk.{weakMark, bkFields, bkAsk, bkFinish, bkAnswer}
 use Rattle.bk.specs.Answers.{Placed}
 use Rattle.bk.specs.declared.Bk.{Bk}
 
@@ -89,9 +88,9 @@ asked-row settings s at bytes e =
     let p = f .0 in
     let r = outcome-read (bkFields (settings .restricted) s at) p (f .1) in
     let inside = placed (settings .restricted) s at p (r .0) (r .1) .account in
-    let v = then-done (validationRow (accountIn s p) (validationIn s p)) _ bytes (f .2) in
+    let v = then-done (validationRow (accountIn s (p .offsetting)) (validationIn s (p .offsetting))) _ bytes (f .2) in
     let account = p .offsetting .account in
-    (v .0, row-sixteen (accountIn s p) (validationIn s p) (v .0) (values-length s account 12 inside) (values-below s account 12 inside) (v .1), sym (value-of (v .2)))
+    (v .0, row-sixteen (accountIn s (p .offsetting)) (validationIn s (p .offsetting)) (v .0) (values-length s account 12 inside) (values-below s account 12 inside) (v .1), sym (value-of (v .2)))
 
 -- it has eight bytes
 pub asked-eight : (settings : Settings) (s : List ℕ) (at : ℕ) (bytes : List ℕ) → bkAsk settings s at ≡ done bytes → length bytes ≡ 8
@@ -125,11 +124,11 @@ finish-within :
     → bkFinish variable s p rows ≡ done ds → (length ds ≤ 12) × Below 10 ds
 unfolding bkFinish
 finish-within variable s p rows ds inside b c e =
-    let n = then-done (pinWithNatural (p .sealed .format) (tableIn s p) (rows .0, accountIn s p, rows .1)) _ ds e in
+    let n = then-done (pinWithNatural (p .sealed .format) (tableIn s (p .offsetting)) (rows .0, accountIn s (p .offsetting), rows .1)) _ ds e in
     let o = then-done (offsetFor variable (p .offsetting .check) (n .0)) _ ds (n .2) in
     let same = passed Weak86 (not (isOn (n .0 .0) (weakPins (p .weak) s))) (o .0) ds (o .2) .1 in
-    let table : every digit (tableIn s p) ≡ true = below-every 9 (tableIn s p) (digits-below (part s (p .offsetting .table) 16) (inside .digits)) in
-    let fit = with-natural-fit (p .sealed .format) (tableIn s p) (rows .0, accountIn s p, rows .1) b (values-length s (p .offsetting .account) 12 (inside .account)) c table (n .0) (n .1) in
+    let table : every digit (tableIn s (p .offsetting)) ≡ true = below-every 9 (tableIn s (p .offsetting)) (digits-below (part s (p .offsetting .table) 16) (inside .digits)) in
+    let fit = with-natural-fit (p .sealed .format) (tableIn s (p .offsetting)) (rows .0, accountIn s (p .offsetting), rows .1) b (values-length s (p .offsetting .account) 12 (inside .account)) c table (n .0) (n .1) in
     let w = offset-within variable (p .offsetting .check) (n .0) (o .0) (fit .4) (o .1) in
     (subst (λ (os : List ℕ). length os ≤ 12) same (omega (arith, w .0, fit .1)), subst (Below 10) same (w .1))
 

@@ -19,6 +19,7 @@ use Rattle.stages.specs.declared.KeysRead.the-variants as keyed
 use Rattle.stages.specs.declared.SealedRead.the-variants as blocked
 use Rattle.stages.specs.declared.OffsettingRead.the-variants as data-read
 use Rattle.stages.specs.declared.WeakStage.the-variants as listed
+use Rattle.stages.proofs.Reading.{keys-found, keys-bad, sealed-found, sealed-bad, offsetting-found, offsetting-bad, weak-found, weak-bad}
 use Rattle.endings.specs.Endings.{end}
 use Rattle.endings.specs.Answers.{endOf}
 use Rattle.endings.specs.declared.End.the-variants as ended
@@ -27,40 +28,6 @@ use Rattle.bk.specs.Bk.{weakMark, bkFields}
 use Rattle.bk.specs.Answers.{bkRead}
 use Rattle.bk.specs.declared.Bk.{Bk}
 use Rattle.bk.specs.declared.BkRead.the-variants as fields
-
--- ---- behind a stage's answer: what was read, and where the next stage begins; or the fault
-
-pub keys-found : (o : Stage Keys) (ks : Keys) (c : Cursor) → keyed.Got ks c ≡ keysRead o → o ≡ read ks (c .at)
-keys-found (read x at) ks c e = let p : x ≡ ks = cc in let q : at ≡ c .at = cc in rw (p, q)
-keys-found (faulty f) ks c e = absurd (let z : _≡_ {A = ℕ} 0 1 = cc in omega arith)
-
-pub keys-bad : (o : Stage Keys) (f : Fault) → keyed.Bad f ≡ keysRead o → o ≡ faulty f
-keys-bad (read x at) f e = absurd (let z : _≡_ {A = ℕ} 0 1 = cc in omega arith)
-keys-bad (faulty g) f e = cc
-
-pub sealed-found : (o : Stage Sealed) (x : Sealed) (c : Cursor) → blocked.Got x c ≡ sealedRead o → o ≡ read x (c .at)
-sealed-found (read y at) x c e = let p : y ≡ x = cc in let q : at ≡ c .at = cc in rw (p, q)
-sealed-found (faulty f) x c e = absurd (let z : _≡_ {A = ℕ} 0 1 = cc in omega arith)
-
-pub sealed-bad : (o : Stage Sealed) (f : Fault) → blocked.Bad f ≡ sealedRead o → o ≡ faulty f
-sealed-bad (read x at) f e = absurd (let z : _≡_ {A = ℕ} 0 1 = cc in omega arith)
-sealed-bad (faulty g) f e = cc
-
-pub offsetting-found : (o : Stage Offsetting) (x : Offsetting) (c : Cursor) → data-read.Got x c ≡ offsettingRead o → o ≡ read x (c .at)
-offsetting-found (read y at) x c e = let p : y ≡ x = cc in let q : at ≡ c .at = cc in rw (p, q)
-offsetting-found (faulty f) x c e = absurd (let z : _≡_ {A = ℕ} 0 1 = cc in omega arith)
-
-pub offsetting-bad : (o : Stage Offsetting) (f : Fault) → data-read.Bad f ≡ offsettingRead o → o ≡ faulty f
-offsetting-bad (read x at) f e = absurd (let z : _≡_ {A = ℕ} 0 1 = cc in omega arith)
-offsetting-bad (faulty g) f e = cc
-
-pub weak-found : (o : Stage Weak) (w : Weak) (c : Cursor) → listed.Got w c ≡ weakStage o → o ≡ read w (c .at)
-weak-found (read x at) w c e = let p : x ≡ w = cc in let q : at ≡ c .at = cc in rw (p, q)
-weak-found (faulty f) w c e = absurd (let z : _≡_ {A = ℕ} 0 1 = cc in omega arith)
-
-pub weak-bad : (o : Stage Weak) (f : Fault) → listed.Bad f ≡ weakStage o → o ≡ faulty f
-weak-bad (read x at) f e = absurd (let z : _≡_ {A = ℕ} 0 1 = cc in omega arith)
-weak-bad (faulty g) f e = cc
 
 -- ---- behind the fields' answer
 

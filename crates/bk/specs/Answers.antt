@@ -13,7 +13,7 @@ use Rattle.pins.specs.Answers.{pinOf}
 use Rattle.fields.specs.Fields.{Stage, read, faulty}
 use Rattle.fields.specs.declared.Fault.{Fault}
 use Rattle.weak.specs.Answers.{Lies}
-use Rattle.bk.specs.Bk.{part}
+use Rattle.stages.specs.Stages.{part}
 use Rattle.bk.specs.declared.Bk.{Bk}
 use Rattle.bk.specs.declared.BkRead.{BkRead}
 use Rattle.bk.specs.declared.BkRead.the-variants as fields

@@ -1,10 +1,9 @@
 -- "The BK command, field after field", and its finish: the offset for a terminal PIN.
 use Prim.Native.Nat.{ℕ}
-use mathlib.Core.List.{List, _++_, map}
+use mathlib.Core.List.{List, _++_}
 use mathlib.Core.Bool.{Bool, not}
-use lib.ListN.{take, drop}
+use lib.ListN.{drop}
 use Rattle.nibbles.specs.Nibbles.{packs}
-use Rattle.alphabet.specs.Alphabet.{valueOf}
 use Rattle.numbers.specs.Numbers.{Outcome, done, andThen, unless}
 use Rattle.numbers.specs.declared.Refusal.the-variants.{Weak86}
 use Rattle.settings.specs.declared.Settings.{Settings}
@@ -15,7 +14,7 @@ use Rattle.keybox.specs.KeyBox.{boxed}
 use Rattle.fields.specs.Fields.{Stage, read, onward, outcome}
 use Rattle.keys.specs.declared.Use.the-variants.{PinKey, Pvk}
 use Rattle.weak.specs.Weak.{isOn, weakPins}
-use Rattle.stages.specs.Stages.{keys, sealed, offsetting, weak}
+use Rattle.stages.specs.Stages.{keys, sealed, offsetting, weak, accountIn, tableIn, validationIn}
 use Rattle.endings.specs.Endings.{end}
 use Rattle.bk.specs.declared.Bk.{Bk}
 
@@ -33,21 +32,6 @@ bkFields restricted s at₁ =
     (λ pins at₁₁. onward (end 11 ks s at₁₁)
     (λ mark past. read (record { sealed = block; offsetting = inputs; weak = pins; trailer = mark }) past)))))
 
--- ---- what stands in the fields
-
--- n characters from a place
-abbrev pub part : List ℕ → ℕ → ℕ → List ℕ
-part s at n = take n (drop at s)
-
-abbrev pub accountIn : List ℕ → Bk → List ℕ
-accountIn s p = map valueOf (part s (p .offsetting .account) 12)
-
-abbrev pub tableIn : List ℕ → Bk → List ℕ
-tableIn s p = map valueOf (part s (p .offsetting .table) 16)
-
-abbrev pub validationIn : List ℕ → Bk → List ℕ
-validationIn s p = part s (p .offsetting .validation) (p .offsetting .width)
-
 -- ---- the asking call
 
 -- "the 8-byte block that the key box must encipher under the PVK"; the validation data were judged as a field, so nothing is refused
@@ -55,7 +39,7 @@ validationIn s p = part s (p .offsetting .validation) (p .offsetting .width)
 unfoldable pub bkAsk : Settings → List ℕ → ℕ → Outcome (List ℕ)
 bkAsk settings s at =
     andThen (outcome (bkFields (settings .restricted) s at))
-    (λ p. andThen (validationRow (accountIn s p) (validationIn s p))
+    (λ p. andThen (validationRow (accountIn s (p .offsetting)) (validationIn s (p .offsetting)))
     (λ ns. done (packs ns)))
 
 -- ---- the answering call
@@ -63,7 +47,7 @@ bkAsk settings s at =
 -- "the block (20 or 24), 81, 86": the offset's digits
 unfoldable pub bkFinish : Bool → List ℕ → Bk → List ℕ × List ℕ → Outcome (List ℕ)
 bkFinish variable s p rows =
-    andThen (pinWithNatural (p .sealed .format) (tableIn s p) (rows .0, accountIn s p, rows .1))
+    andThen (pinWithNatural (p .sealed .format) (tableIn s (p .offsetting)) (rows .0, accountIn s (p .offsetting), rows .1))
     (λ pair. andThen (offsetFor variable (p .offsetting .check) pair)
     (λ offset. unless Weak86 (not (isOn (pair .0) (weakPins (p .weak) s))) offset))
 

@@ -15,7 +15,8 @@ use Rattle.fields.specs.Fields.{read, run}
 use Rattle.fields.proofs.Steady.{alike-less, alike-at}
 use Rattle.keys.specs.declared.Use.the-variants.{PinKey, Pvk}
 use Rattle.fields.proofs.Reading.{read-once}
-use Rattle.bk.specs.Bk.{weakMark, bkFields, accountIn, tableIn, validationIn}
+use Rattle.stages.specs.Stages.{accountIn, tableIn, validationIn}
+use Rattle.bk.specs.Bk.{weakMark, bkFields}
 use Rattle.bk.specs.declared.Bk.{Bk}
 use Rattle.claims_commands.specs.Runs.{AlikeBut}
 use Rattle.claims_commands.specs.Claims.{ReadAlike}
@@ -90,13 +91,13 @@ module _
     from-alike : (place : ℕ) → p .sealed .block + 16 ≤ place → drop place s ≡ drop place t
     from-alike place h = alike-ahead (p .sealed .block) place s t alike h .same
 
-    pub account-alike : accountIn s p ≡ accountIn t p
+    pub account-alike : accountIn s (p .offsetting) ≡ accountIn t (p .offsetting)
     account-alike = ap (λ (cs : List ℕ). map valueOf (take 12 cs)) (from-alike (p .offsetting .account) (places-behind restricted s at p past e .account))
 
-    pub table-alike : tableIn s p ≡ tableIn t p
+    pub table-alike : tableIn s (p .offsetting) ≡ tableIn t (p .offsetting)
     table-alike = ap (λ (cs : List ℕ). map valueOf (take 16 cs)) (from-alike (p .offsetting .table) (places-behind restricted s at p past e .table))
 
-    pub validation-alike : validationIn s p ≡ validationIn t p
+    pub validation-alike : validationIn s (p .offsetting) ≡ validationIn t (p .offsetting)
     validation-alike = ap (take (p .offsetting .width)) (from-alike (p .offsetting .validation) (places-behind restricted s at p past e .validation))
 
     pub trailer-alike : drop (p .trailer) s ≡ drop (p .trailer) t

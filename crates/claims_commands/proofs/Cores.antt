@@ -33,11 +33,11 @@ use Rattle.fields.specs.Fields.{Stage, read, faulty, outcome, run, number, trai
 use Rattle.keys.specs.Keys.{keyType, hexKey, lettered, key, lmkField}
 use Rattle.weak.specs.Weak.{weakField, entries, isOn}
 use Rattle.keybox.specs.KeyBox.{boxed}
-use Rattle.stages.specs.Stages.{keys, formatField, sealed, validationWidth, validationField, offsetting, weak}
+use Rattle.stages.specs.Stages.{keys, formatField, sealed, validationWidth, validationField, offsetting, weak, accountIn, validationIn}
 use Rattle.endings.specs.Endings.{end}
 use Rattle.stages.specs.declared.Offsetting.{Offsetting}
 use Rattle.fields.proofs.Reading.{field-read, read-once}
-use Rattle.bk.specs.Bk.{bkFields, accountIn, validationIn, bkAsk, bkFinish, bkAnswer}
+use Rattle.bk.specs.Bk.{bkFields, bkAsk, bkFinish, bkAnswer}
 use Rattle.bk.specs.declared.Bk as bk
 use Rattle.commands.specs.Commands.{askBy, answerBy, commanded, responding, silently, asked, answered}
 use Rattle.claims_blocks.specs.Figures.{usualAccount}
@@ -157,10 +157,10 @@ fields-refuse settings s at q = by-fields (bkFields (settings .restricted) s at)
   where
     by-fields :
         (stage : Stage bk.Bk) → bkFields (settings .restricted) s at ≡ stage
-        → andThen (outcome stage) (λ p. andThen (validationRow (accountIn s p) (validationIn s p)) (λ ns. done (packs ns))) ≡ refused q → outcome stage ≡ refused q
+        → andThen (outcome stage) (λ p. andThen (validationRow (accountIn s (p .offsetting)) (validationIn s (p .offsetting))) (λ ns. done (packs ns))) ≡ refused q → outcome stage ≡ refused q
     by-fields (read p past) f e =
         let h = staged (settings .restricted) s at p past f in
-        let row = row-of-valid (accountIn s p) (validationIn s p) (valid-held 6 s (h .at₆) (p .offsetting) (h .at₁₀) (h .measured)) in
+        let row = row-of-valid (accountIn s (p .offsetting)) (validationIn s (p .offsetting)) (valid-held 6 s (h .at₆) (p .offsetting) (h .at₁₀) (h .measured)) in
         absurd (not-refused (rw (row .1) at e))
     by-fields (faulty f) _ e = ap refused (refusal-of e)
 

@@ -33,7 +33,8 @@ use Rattle.frame.proofs.Laws.{framed-bounds, opening-length}
 use Rattle.fields.specs.Fields.{outcome}
 use Rattle.weak.specs.Weak.{isOn, weakPins}
 use Rattle.keybox.specs.KeyBox.{boxed}
-use Rattle.bk.specs.Bk.{bkFields, accountIn, tableIn, validationIn, bkAsk, bkFinish, bkAnswer, bkPayload}
+use Rattle.stages.specs.Stages.{accountIn, tableIn, validationIn}
+use Rattle.bk.specs.Bk.{bkFields, bkAsk, bkFinish, bkAnswer, bkPayload}
 use Rattle.bk.specs.declared.Bk as fields
 use Rattle.bk.proofs.Places.{Answered, answer-held}
 use Rattle.commands.specs.Commands.{askBy, answerBy, opened, asked, answered, commanded, responding, silently}
@@ -79,7 +80,7 @@ ask-gives : (code : Code) (settings : Settings) (s : List ℕ) (at : ℕ) → On
 unfolding askBy bkAsk every
 ask-gives Bk settings s at =
     then-only (In askRefusals) (outcome (bkFields (settings .restricted) s at)) _ (wider fieldNumbers askRefusals _ refl (fields-give (settings .restricted) s at))
-    (λ p. then-only (In askRefusals) (validationRow (accountIn s p) (validationIn s p)) _ (row-gives (accountIn s p) (validationIn s p))
+    (λ p. then-only (In askRefusals) (validationRow (accountIn s (p .offsetting)) (validationIn s (p .offsetting))) _ (row-gives (accountIn s (p .offsetting)) (validationIn s (p .offsetting)))
     (λ ns. done-only (In askRefusals) (packs ns)))
 ask-gives Other settings s at = refused-only (In askRefusals) Code68 refl
 
@@ -174,7 +175,7 @@ module _ (settings : Settings) (g h : Bool) (s block enciphered : List ℕ) wher
   finish-gives : (p : fields.Bk) (rows : List ℕ × List ℕ) → Only Answer (bkFinish (settings .variable) s p rows)
   unfolding bkFinish
   finish-gives p rows =
-      then-only Answer (pinWithNatural (p .sealed .format) (tableIn s p) (rows .0, accountIn s p, rows .1)) _ (pair-gives (settings .variable) _ _ _)
+      then-only Answer (pinWithNatural (p .sealed .format) (tableIn s (p .offsetting)) (rows .0, accountIn s (p .offsetting), rows .1)) _ (pair-gives (settings .variable) _ _ _)
       (λ pair. then-only Answer (offsetFor (settings .variable) (p .offsetting .check) pair) _
       (then-only Answer (covers (settings .variable) (p .offsetting .check) (length (pair .0))) _ (covers-gives (settings .variable) (p .offsetting .check) (length (pair .0)))
       (λ m. done-only Answer (offsetOf m (pair .0) (pair .1))))

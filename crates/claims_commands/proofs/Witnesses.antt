@@ -25,9 +25,9 @@ use Rattle.keys.specs.Keys.{keyType, hexKey, lettered, key, lmkField}
 use Rattle.weak.specs.Weak.{noneAt, listed, weakField, entries, isOn}
 use Rattle.weak.specs.declared.Weak.{Weak}
 use Rattle.keybox.specs.KeyBox.{boxed}
-use Rattle.stages.specs.Stages.{keys, formatField, sealed, validationField, offsetting, weak}
+use Rattle.stages.specs.Stages.{keys, formatField, sealed, validationField, offsetting, weak, accountIn, tableIn}
 use Rattle.endings.specs.Endings.{end}
-use Rattle.bk.specs.Bk.{bkFields, accountIn, tableIn, bkFinish, bkAnswer}
+use Rattle.bk.specs.Bk.{bkFields, bkFinish, bkAnswer}
 use Rattle.bk.specs.declared.Bk.{Bk}
 use Rattle.commands.specs.Commands.{roomToAnswer, answerBy, answered}
 use Rattle.claims_commands.specs.Runs.{Reads}
@@ -80,7 +80,7 @@ module _ (settings : Settings) (m : ℕ) (weak : List ℕ) (p : Bk) where
       × (codeOf (drop (settings .header) (sent a)) ≡ code.Bk)
       × (bkFields (settings .restricted) (sent a) (settings .header + 2) ≡ read p (p .trailer))
       × (boxed true true (a .block) (a .enciphered) ≡ done (rows a))
-      × (pinWithNatural (p .sealed .format) (tableIn (sent a) p) (rows a .0, accountIn (sent a) p, rows a .1) ≡ done pair)
+      × (pinWithNatural (p .sealed .format) (tableIn (sent a) (p .offsetting)) (rows a .0, accountIn (sent a) (p .offsetting), rows a .1) ≡ done pair)
 
   reading : (a : Run) (pair : List ℕ × List ℕ) → Computed a pair → Reads settings true true roomToAnswer (sent a) (a .block) (a .enciphered)
   reading a pair c = record {

@@ -11,7 +11,8 @@ use Rattle.frame.specs.declared.Code.the-variants as code
 use Rattle.offsets.specs.Offsets.{pinWithNatural}
 use Rattle.fields.specs.Fields as field
 use Rattle.keybox.specs.KeyBox as keybox
-use Rattle.bk.specs.Bk.{bkFields, accountIn, tableIn}
+use Rattle.stages.specs.Stages.{accountIn, tableIn}
+use Rattle.bk.specs.Bk.{bkFields}
 use Rattle.bk.specs.declared.Bk.{Bk}
 use Rattle.commands.specs.Commands.{roomToAnswer}
 
@@ -38,4 +39,4 @@ pub record Reads (settings : Settings) (pinKeyGood pvkGood : Bool) (room : ℕ) 
   pub reaches : Reaches settings pinKeyGood pvkGood room s block enciphered
   pub pin : List ℕ
   pub natural : List ℕ
-  pub paired : pinWithNatural (reaches .fields .sealed .format) (tableIn s (reaches .fields)) (reaches .rows .0, accountIn s (reaches .fields), reaches .rows .1) ≡ done (pin, natural)
+  pub paired : pinWithNatural (reaches .fields .sealed .format) (tableIn s (reaches .fields .offsetting)) (reaches .rows .0, accountIn s (reaches .fields .offsetting), reaches .rows .1) ≡ done (pin, natural)

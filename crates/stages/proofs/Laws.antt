@@ -1,14 +1,18 @@
 -- What a stage that was read says of its places.
 -- Assumes nothing.
-use Prim.Native.Nat.{ℕ, _+_, _-_, _≤_}
+use Prim.Native.Nat.{ℕ, _+_, _^_, _≤_, _<_}
 use native.Mathlib.Omega.{arith}
 use mathlib.Core.Path.{_≡_, sym, ap, _∙_, subst}
-use mathlib.Core.List.{List}
+use mathlib.Core.List.{List, map}
 use mathlib.Core.Bool.{true}
-use lib.ListN.{length, take, drop}
+use lib.ListN.{length, take, drop, length-map, length-drop}
+use lib.Seq.{length-take-le}
 use lib.Dec.{leb}
 use borrow.Author.Tests.{leb-true}
-use Rattle.alphabet.specs.Alphabet.{allOf}
+use Rattle.nibbles.specs.Nibbles.{word, row}
+use Rattle.nibbles.proofs.Laws.{Below, row-word, word-under, map-below}
+use Rattle.alphabet.specs.Alphabet.{allOf, valueOf}
+use Rattle.alphabet.proofs.Laws.{value-below}
 use Rattle.alphabet.specs.declared.Class.the-variants.{Digit}
 use Rattle.numbers.specs.Numbers.{done, unless}
 use Rattle.numbers.specs.declared.Refusal.the-variants.{Field15, Table25}
@@ -16,7 +20,7 @@ use Rattle.numbers.proofs.Laws.{then-done, passed}
 use Rattle.fields.specs.Fields.{read, onward, run, number}
 use Rattle.fields.proofs.Laws.{run-found, number-found}
 use Rattle.fields.proofs.Reading.{field-read, read-once, inside, inside-from}
-use Rattle.stages.specs.Stages.{offsetting, validationField, validationWidth, weak}
+use Rattle.stages.specs.Stages.{offsetting, validationField, validationWidth, part, weak}
 use Rattle.stages.specs.declared.Offsetting.{Offsetting}
 use Rattle.stages.proofs.Reading.{width-bounds}
 use Rattle.validation.specs.Validation.{isValidation}
@@ -71,6 +75,23 @@ offsetting-held first s at o next e =
     held-as (read-once (f₄ .3)) (laid s at (f₁ .0) (f₄ .0) (f₁ .1) (f₂ .1) (f₃ .1) (f₄ .1) (f₂ .0) (f₃ .0) (f₁ .2) (f₂ .2) (f₃ .2) (f₄ .2)) where
       held-as : {x : Offsetting} {m : ℕ} → (x ≡ o) × (m ≡ next) → Held s x m → Held s o next
       held-as {x} {m} (p, q) h = subst (λ (y : Offsetting). Held s y next) p (subst (λ (k : ℕ). Held s x k) q h)
+
+-- ---- digits at a place
+
+-- the values of a part of the command: as many as it has characters, and nibbles
+module _ (s : List ℕ) (from n : ℕ) (inside : from + n ≤ length s) where
+  pub values-length : length (map valueOf (part s from n)) ≡ n
+  values-length = length-map (part s from n) valueOf ∙ length-take-le n (drop from s) (rw length-drop (omega arith))
+
+  pub values-below : Below 16 (map valueOf (part s from n))
+  values-below = map-below 16 valueOf value-below (part s from n)
+
+  -- the word that holds them holds nothing else
+  pub values-row : (w : ℕ) → w ≡ word (map valueOf (part s from n)) → row n w ≡ map valueOf (part s from n)
+  values-row w e = ap (row n) e ∙ ap (λ (k : ℕ). row k (word (map valueOf (part s from n)))) (sym values-length) ∙ row-word (map valueOf (part s from n)) values-below
+
+  pub values-under : (w : ℕ) → w ≡ word (map valueOf (part s from n)) → w < 16 ^ n
+  values-under w e = rw e (word-under n (map valueOf (part s from n)) values-below (let l = values-length in omega arith))
 
 -- ---- Weak
 

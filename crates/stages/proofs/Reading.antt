@@ -1,4 +1,4 @@
--- What the code's answers tell of a stage: each field goes on or ends it.
+-- What the code's answers tell: of the fields that stages read here, and of the stages.
 -- Assumes nothing.
 use Prim.Native.Nat.{ℕ, _+_, _-_, _≤_, _<_}
 use native.Mathlib.Omega.{arith}
@@ -12,16 +12,25 @@ use Rattle.numbers.specs.Numbers.{done, refused}
 use Rattle.numbers.specs.declared.Refusal.{Refusal}
 use Rattle.numbers.specs.declared.Refusal.the-variants.{Field15}
 use Rattle.formats.specs.declared.Format.{Format}
-use Rattle.fields.specs.Fields.{Found, marked}
+use Rattle.fields.specs.Fields.{Found, Stage, read, faulty, marked}
 use Rattle.fields.specs.Answers.{cursorAt, valueFrom}
+use Rattle.fields.specs.declared.Cursor.{Cursor}
+use Rattle.fields.specs.declared.Fault.{Fault}
 use Rattle.fields.specs.declared.Value.the-variants as value
 use Rattle.validation.specs.Validation.{isValidation}
+use Rattle.weak.specs.declared.Weak.{Weak}
 use Rattle.stages.specs.Stages.{validationWidth, validationField}
-use Rattle.fields.specs.declared.Cursor.{Cursor}
-use Rattle.stages.specs.Answers.{formatRead}
+use Rattle.stages.specs.Answers.{formatRead, keysRead, sealedRead, offsettingRead, weakStage}
+use Rattle.stages.specs.declared.Keys.{Keys}
+use Rattle.stages.specs.declared.Sealed.{Sealed}
+use Rattle.stages.specs.declared.Offsetting.{Offsetting}
+use Rattle.stages.specs.declared.KeysRead.the-variants as keyed
+use Rattle.stages.specs.declared.SealedRead.the-variants as blocked
+use Rattle.stages.specs.declared.OffsettingRead.the-variants as data-read
+use Rattle.stages.specs.declared.WeakStage.the-variants as listed
 use Rattle.stages.specs.declared.FormatRead.the-variants.{Got, Bad}
 
--- ---- behind the code's answer
+-- ---- behind the answer for a format
 
 -- a format was found, so many characters ago
 pub format-found : (at : ℕ) (o : Found Format) (f : Format) (c : Cursor) → Got f c ≡ formatRead at o → (n : ℕ) × (o ≡ done (f, n)) × (c ≡ cursorAt (at + n))
@@ -66,3 +75,37 @@ module _ (s : List ℕ) (at width : ℕ) (w : width ≡ validationWidth (drop at
     pub validation-wrong : isValidation (take (at + width - at) (drop at s)) ≡ false → value.Bad Field15 ≡ valueFrom at (validationField (drop at s))
     unfolding validationField
     validation-wrong e = rw (fits, ap isValidation (sym part) ∙ e)
+
+-- ---- behind a stage's answer: what was read, and where the next stage begins; or the fault
+
+pub keys-found : (o : Stage Keys) (ks : Keys) (c : Cursor) → keyed.Got ks c ≡ keysRead o → o ≡ read ks (c .at)
+keys-found (read x at) ks c e = let p : x ≡ ks = cc in let q : at ≡ c .at = cc in rw (p, q)
+keys-found (faulty f) ks c e = absurd (let z : _≡_ {A = ℕ} 0 1 = cc in omega arith)
+
+pub keys-bad : (o : Stage Keys) (f : Fault) → keyed.Bad f ≡ keysRead o → o ≡ faulty f
+keys-bad (read x at) f e = absurd (let z : _≡_ {A = ℕ} 0 1 = cc in omega arith)
+keys-bad (faulty g) f e = cc
+
+pub sealed-found : (o : Stage Sealed) (x : Sealed) (c : Cursor) → blocked.Got x c ≡ sealedRead o → o ≡ read x (c .at)
+sealed-found (read y at) x c e = let p : y ≡ x = cc in let q : at ≡ c .at = cc in rw (p, q)
+sealed-found (faulty f) x c e = absurd (let z : _≡_ {A = ℕ} 0 1 = cc in omega arith)
+
+pub sealed-bad : (o : Stage Sealed) (f : Fault) → blocked.Bad f ≡ sealedRead o → o ≡ faulty f
+sealed-bad (read x at) f e = absurd (let z : _≡_ {A = ℕ} 0 1 = cc in omega arith)
+sealed-bad (faulty g) f e = cc
+
+pub offsetting-found : (o : Stage Offsetting) (x : Offsetting) (c : Cursor) → data-read.Got x c ≡ offsettingRead o → o ≡ read x (c .at)
+offsetting-found (read y at) x c e = let p : y ≡ x = cc in let q : at ≡ c .at = cc in rw (p, q)
+offsetting-found (faulty f) x c e = absurd (let z : _≡_ {A = ℕ} 0 1 = cc in omega arith)
+
+pub offsetting-bad : (o : Stage Offsetting) (f : Fault) → data-read.Bad f ≡ offsettingRead o → o ≡ faulty f
+offsetting-bad (read x at) f e = absurd (let z : _≡_ {A = ℕ} 0 1 = cc in omega arith)
+offsetting-bad (faulty g) f e = cc
+
+pub weak-found : (o : Stage Weak) (w : Weak) (c : Cursor) → listed.Got w c ≡ weakStage o → o ≡ read w (c .at)
+weak-found (read x at) w c e = let p : x ≡ w = cc in let q : at ≡ c .at = cc in rw (p, q)
+weak-found (faulty f) w c e = absurd (let z : _≡_ {A = ℕ} 0 1 = cc in omega arith)
+
+pub weak-bad : (o : Stage Weak) (f : Fault) → listed.Bad f ≡ weakStage o → o ≡ faulty f
+weak-bad (read x at) f e = absurd (let z : _≡_ {A = ℕ} 0 1 = cc in omega arith)
+weak-bad (faulty g) f e = cc

@@ -1,9 +1,10 @@
 -- The stages of a command: runs of fields that commands share. Each is told its first field's number.
 use Prim.Native.Nat.{ℕ, _+_}
-use mathlib.Core.List.{List}
+use mathlib.Core.List.{List, map}
 use mathlib.Core.Bool.{Bool, not, _||_, cond}
-use lib.ListN.{length, take}
+use lib.ListN.{length, take, drop}
 use lib.Dec.{leb}
+use Rattle.alphabet.specs.Alphabet.{valueOf}
 use Rattle.alphabet.specs.declared.Class.the-variants.{Digit, CapitalHex}
 use Rattle.numbers.specs.Numbers.{andThen, unless}
 use Rattle.numbers.specs.declared.Refusal.the-variants.{Field15, Table25, NotHere69}
@@ -69,6 +70,20 @@ offsetting first s at =
     (λ _ tableAt. field (first + 2) (run Digit Field15 Table25 16) s tableAt
     (λ _ dataAt. field (first + 3) validationField s dataAt
     (λ width next. read (record { check = check; account = accountAt; table = tableAt; validation = dataAt; width = width }) next))))
+
+-- n characters from a place
+abbrev pub part : List ℕ → ℕ → ℕ → List ℕ
+part s at n = take n (drop at s)
+
+-- what stands at its places
+abbrev pub accountIn : List ℕ → Offsetting → List ℕ
+accountIn s o = map valueOf (part s (o .account) 12)
+
+abbrev pub tableIn : List ℕ → Offsetting → List ℕ
+tableIn s o = map valueOf (part s (o .table) 16)
+
+abbrev pub validationIn : List ℕ → Offsetting → List ℕ
+validationIn s o = part s (o .validation) (o .width)
 
 -- ---- Weak: the weak list
 

@@ -6,7 +6,8 @@ use Rattle.pins.specs.Answers.{readingOf}
 use Rattle.pins.specs.declared.Reading.the-variants.{Bad}
 use Rattle.offsets.specs.Answers.{refusalIn}
 use Rattle.offsets.specs.declared.Rows.{Rows}
-use Rattle.bk.proofs.Laws.{values-under, compared-fit, finish-unread, finish-long, finish-weak, finish-made}
+use Rattle.stages.proofs.Laws.{values-under}
+use Rattle.bk.proofs.Laws.{compared-fit, finish-unread, finish-long, finish-weak, finish-made}
 use Rattle.bk.proofs.finish.Statement.{statement}
 use Rattle.bk.proofs.finish.Tie as tie
 
