@@ -5,77 +5,77 @@ use Rattle.claims_functions.proofs.Once.{settled, left, answered}
 
 pub key-box-once : KeyBoxSettled
 key-box-once = record {
-  BoxRead·refusal = λ self. settled;
-  key-box = λ pinparity pvkparity block enciphered. settled;
+  BoxRead·refusal = λ κs a r r′ ends ends′. settled;
+  key-box = λ κs a r r′ ends ends′. settled;
 }
 
 pub frame-once : FrameSettled
 frame-once = record {
-  Code·at = λ command at. settled;
-  is-framed = λ header command. settled;
-  put-run = λ run before. left;
-  «open» = λ header command number before. left;
+  Code·at = λ κs a r r′ ends ends′. settled;
+  is-framed = λ κs a r r′ ends ends′. settled;
+  put-run = λ κs a r r′ ends ends′. left 1;
+  «open» = λ κs a r r′ ends ends′. left 3;
 }
 
 pub fields-once : FieldsSettled
 fields-once = record {
-  Value·refusal = λ self. settled;
-  fault-at = λ refusal field cursor. settled;
-  no-fault = settled;
-  two-digits = λ tens ones. settled;
-  Cursor·run = λ self command n class missing wrong. settled;
-  Cursor·number = λ self command low high wrong. settled;
-  Cursor·mark = λ self command mark. settled;
-  Cursor·trailer = λ self command. settled;
+  Value·refusal = λ κs a r r′ ends ends′. settled;
+  fault-at = λ κs a r r′ ends ends′. settled;
+  no-fault = λ κs a r r′ ends ends′. settled;
+  two-digits = λ κs a r r′ ends ends′. settled;
+  Cursor·run = λ κs a r r′ ends ends′. settled;
+  Cursor·number = λ κs a r r′ ends ends′. settled;
+  Cursor·mark = λ κs a r r′ ends ends′. settled;
+  Cursor·trailer = λ κs a r r′ ends ends′. settled;
 }
 
 pub keys-once : KeysSettled
 keys-once = record {
-  Keyed·refusal = λ self. settled;
-  Lmk·is-present = λ self. settled;
-  Lmk·agrees = λ self other. settled;
-  key-type = λ cursor command. settled;
-  key-field = λ cursor command letters permitted. settled;
-  lmk-field = λ cursor command. settled;
+  Keyed·refusal = λ κs a r r′ ends ends′. settled;
+  Lmk·is-present = λ κs a r r′ ends ends′. settled;
+  Lmk·agrees = λ κs a r r′ ends ends′. settled;
+  key-type = λ κs a r r′ ends ends′. settled;
+  key-field = λ κs a r r′ ends ends′. settled;
+  lmk-field = λ κs a r r′ ends ends′. settled;
 }
 
 pub weak-once : WeakSettled
 weak-once = record {
-  WeakRead·refusal = λ self. settled;
-  weak-field = λ cursor command mark. settled;
-  is-weak = λ weak command n digits. settled;
+  WeakRead·refusal = λ κs a r r′ ends ends′. settled;
+  weak-field = λ κs a r r′ ends ends′. settled;
+  is-weak = λ κs a r r′ ends ends′. settled;
 }
 
 pub stages-once : StagesSettled
 stages-once = record {
-  KeysRead·fault = λ self. settled;
-  SealedRead·fault = λ self. settled;
-  OffsettingRead·fault = λ self. settled;
-  WeakStage·fault = λ self. settled;
-  FormatRead·refusal = λ self. settled;
-  read-keys = λ command start field first second. settled;
-  read-sealed = λ command block field restricted. settled;
-  read-offsetting = λ command start field. settled;
-  read-weak = λ command start field mark. settled;
+  KeysRead·fault = λ κs a r r′ ends ends′. settled;
+  SealedRead·fault = λ κs a r r′ ends ends′. settled;
+  OffsettingRead·fault = λ κs a r r′ ends ends′. settled;
+  WeakStage·fault = λ κs a r r′ ends ends′. settled;
+  FormatRead·refusal = λ κs a r r′ ends ends′. settled;
+  read-keys = λ κs a r r′ ends ends′. settled;
+  read-sealed = λ κs a r r′ ends ends′. settled;
+  read-offsetting = λ κs a r r′ ends ends′. settled;
+  read-weak = λ κs a r r′ ends ends′. settled;
 }
 
 pub endings-once : EndingsSettled
 endings-once = record {
-  End·fault = λ self. settled;
-  read-end = λ command start field keys. settled;
+  End·fault = λ κs a r r′ ends ends′. settled;
+  read-end = λ κs a r r′ ends ends′. settled;
 }
 
 pub bk-once : BkSettled
 bk-once = record {
-  BkRead·refusal = λ self. settled;
-  Finished·refusal = λ self. settled;
-  read = λ restricted command start. settled;
-  ask = λ settings command start. settled;
-  answer = λ settings pinparity pvkparity command start block enciphered. settled;
+  BkRead·refusal = λ κs a r r′ ends ends′. settled;
+  Finished·refusal = λ κs a r r′ ends ends′. settled;
+  read = λ κs a r r′ ends ends′. settled;
+  ask = λ κs a r r′ ends ends′. settled;
+  answer = λ κs a r r′ ends ends′. settled;
 }
 
 pub commands-once : CommandsSettled
 commands-once = record {
-  ask = λ settings command before. answered;
-  answer = λ settings pinparity pvkparity command block enciphered before. answered;
+  ask = λ κs a r r′ ends ends′. answered 2;
+  answer = λ κs a r r′ ends ends′. answered 6;
 }

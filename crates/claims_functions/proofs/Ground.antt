@@ -5,72 +5,74 @@ use Rattle.claims_functions.proofs.Once.{settled, left, replied}
 
 pub nibbles-once : NibblesSettled
 nibbles-once = record {
-  high = λ b. settled;
-  low = λ b. settled;
-  nibble = λ w i. settled;
-  part = λ w from n. settled;
-  join = λ head n tail. settled;
-  row-of = λ bytes. settled;
-  put-bytes = λ w before. left;
-  put-nibbles = λ w n before. left;
-  run-end = λ w from to low high. settled;
+  high = λ κs a r r′ ends ends′. settled;
+  low = λ κs a r r′ ends ends′. settled;
+  nibble = λ κs a r r′ ends ends′. settled;
+  part = λ κs a r r′ ends ends′. settled;
+  join = λ κs a r r′ ends ends′. settled;
+  row-of = λ κs a r r′ ends ends′. settled;
+  put-bytes = λ κs a r r′ ends ends′. left 1;
+  put-nibbles = λ κs a r r′ ends ends′. left 2;
+  run-end = λ κs a r r′ ends ends′. settled;
 }
 
 pub alphabet-once : AlphabetSettled
 alphabet-once = record {
-  Class·admits = λ self c. settled;
-  all-of = λ class s from to. settled;
-  ahead = λ s from. settled;
-  has-at = λ s from text. settled;
-  value = λ c. settled;
+  Class·admits = λ κs a r r′ ends ends′. settled;
+  all-of = λ κs a r r′ ends ends′. settled;
+  ahead = λ κs a r r′ ends ends′. settled;
+  has-at = λ κs a r r′ ends ends′. settled;
+  value = λ κs a r r′ ends ends′. settled;
 }
 
 pub numbers-once : NumbersSettled
 numbers-once = record {
-  Reply·refused = λ q. replied;
-  Reply·done = λ written. replied;
-  Refusal·number = λ self. settled;
+  Reply·refused = λ κs a r r′ ends ends′. replied;
+  Reply·done = λ κs a r r′ ends ends′. replied;
+  Refusal·number = λ κs a r r′ ends ends′. settled;
 }
 
 pub settings-once : SettingsSettled
 settings-once = record {
-  Settings·usual = settled;
-  Settings·with-header = λ self header. settled;
-  Settings·with-restricted = λ self restricted. settled;
-  Settings·with-variable = λ self variable. settled;
+  Settings·usual = λ κs a r r′ ends ends′. settled;
+  Settings·with-header = λ κs a r r′ ends ends′. settled;
+  Settings·with-restricted = λ κs a r r′ ends ends′. settled;
+  Settings·with-variable = λ κs a r r′ ends ends′. settled;
 }
 
 pub formats-once : FormatsSettled
 formats-once = record {
-  Format·lead = λ self. settled;
-  Format·fill-read = λ self. settled;
-  Format·fill-written = λ self. settled;
-  Format·veiled = λ self. settled;
-  Format·is-01-or-47 = λ self. settled;
-  Lead·width = λ self. settled;
-  Fill·least = λ self. settled;
-  Fill·filled = λ self n. settled;
-  Code·of = λ code. settled;
-  Code·is-known = λ self. settled;
-  Chosen·by = λ code. settled;
-  Chosen·refusal = λ self. settled;
-  block-width = λ code. settled;
+  Format·lead = λ κs a r r′ ends ends′. settled;
+  Format·fill-read = λ κs a r r′ ends ends′. settled;
+  Format·fill-written = λ κs a r r′ ends ends′. settled;
+  Format·veiled = λ κs a r r′ ends ends′. settled;
+  Format·is-01-or-47 = λ κs a r r′ ends ends′. settled;
+  Lead·width = λ κs a r r′ ends ends′. settled;
+  Fill·least = λ κs a r r′ ends ends′. settled;
+  Fill·filled = λ κs a r r′ ends ends′. settled;
+  Code·of = λ κs a r r′ ends ends′. settled;
+  Code·is-known = λ κs a r r′ ends ends′. settled;
+  Chosen·by = λ κs a r r′ ends ends′. settled;
+  Chosen·refusal = λ κs a r r′ ends ends′. settled;
+  block-width = λ κs a r r′ ends ends′. settled;
 }
 
 pub pins-once : PinsSettled
 pins-once = record {
-  Reading·refusal = λ self. settled;
-  Row·refusal = λ self. settled;
-  sized-row = λ bytes width. settled;
-  values = λ s. settled;
-  class-end = λ class s. settled;
-  account = λ characters. settled;
-  field = λ digits. settled;
-  pin-length = λ n. settled;
-  handed = λ digits. settled;
-  packed = λ digits. settled;
-  put-characters = λ digits n before. left;
+  Reading·refusal = λ κs a r r′ ends ends′. settled;
+  Row·refusal = λ κs a r r′ ends ends′. settled;
+  sized-row = λ κs a r r′ ends ends′. settled;
+  values = λ κs a r r′ ends ends′. settled;
+  class-end = λ κs a r r′ ends ends′. settled;
+  account = λ κs a r r′ ends ends′. settled;
+  field = λ κs a r r′ ends ends′. settled;
+  pin-length = λ κs a r r′ ends ends′. settled;
+  handed = λ κs a r r′ ends ends′. settled;
+  packed = λ κs a r r′ ends ends′. settled;
+  put-characters = λ κs a r r′ ends ends′. left 2;
 }
 
 pub classroom-once : ClassroomSettled
-classroom-once = record { hex = λ block. settled }
+classroom-once = record {
+  hex = λ κs a r r′ ends ends′. settled;
+}

@@ -1,25 +1,37 @@
--- The law of each shape: what a promise gives settles the answer.
+-- The law of each shape of a contract: what it says settles the answer and what a lent buffer holds at exit.
 -- Assumes nothing.
-use Prim.Native.Nat.{ℕ}
-use mathlib.Core.Path.{sym, ap₂, _∙_}
+use Prim.Native.Nat.{ℕ, zero, suc}
+use mathlib.Core.Path.{_≡_, sym, refl, ap, ap₂, _∙_}
 use mathlib.Core.List.{List}
-use Rattle.numbers.specs.Promise.{Said}
+use Rattle.numbers.specs.Promise.{Said, Does}
+use Rattle.numbers.specs.declared.Reply.{Reply}
 use Rattle.numbers.proofs.Laws.{once}
-use Rattle.claims_blocks.specs.Promises.{OneAnswer}
-use Rattle.claims_functions.specs.Once.{Settled, Left, Replied}
 
--- two that equal the same are equal
-pub settled : {A : Type 0} {d : A} → Settled d
-settled r r′ e f = e ∙ sym f
+-- the ending where the last parameter is a lent buffer: nothing for the k parameters before it, and its list
+abbrev Ends : ℕ → Type 0 → Type 0
+Ends zero A = A × Unit {0}
+Ends (suc k) A = Unit {0} × Ends k A
 
--- so too for a buffer, as a whole
-pub left : {A : Type 0} {d : List A} → Left d
-left after after′ e f = e ∙ sym f
+abbrev ending : {A : Type 0} (k : ℕ) → A → Ends k A
+ending zero b = (b, tt)
+ending (suc k) b = (tt, ending k b)
+
+-- an answer that equals a definition, and no lent buffer
+pub settled : {A E : Type 0} {d r r′ : A} {e : E} → r ≡ d → r′ ≡ d → (r ≡ r′) × (e ≡ e)
+settled p q = (p ∙ sym q, refl)
+
+-- a buffer that equals a definition, as a whole, and no answer
+pub left : {A : Type 0} {d b b′ : A} {u : Unit {0}} (k : ℕ) → b ≡ d → b′ ≡ d → (u ≡ u) × (ending k b ≡ ending k b′)
+left k p q = (refl, ap (ending k) (p ∙ sym q))
 
 -- number and count are all that a reply has
-pub replied : {n w : ℕ} → Replied n w
-replied r r′ e f = ap₂ (λ (n w : ℕ). record { number = n; written = w }) (e .0 ∙ sym (f .0)) (e .1 ∙ sym (f .1))
+pub replied : {n w : ℕ} {r r′ : Reply} {E : Type 0} {e : E} → (r .number ≡ n) × (r .written ≡ w) → (r′ .number ≡ n) × (r′ .written ≡ w) → (r ≡ r′) × (e ≡ e)
+replied p q = (ap₂ (λ (n w : ℕ). record { number = n; written = w }) (p .0 ∙ sym (q .0)) (p .1 ∙ sym (q .1)), refl)
 
 -- what a call says settles its reply and every element of the buffer
-pub answered : {A : Type 0} {said : Said A} {before : List A} → OneAnswer said before
-answered r r′ after after′ d e = once d e
+pub answered : {A : Type 0} {said : Said A} {before b b′ : List A} {r r′ : Reply} (k : ℕ) → Does said before r b → Does said before r′ b′ → (r ≡ r′) × (ending k b ≡ ending k b′)
+answered k p q = (once p q .0, ap (ending k) (once p q .1))
+
+-- a call that is lent no buffer
+pub verdict : {A E : Type 0} {said : Said A} {before after : List A} {r r′ : Reply} {e : E} → Does said before r after → Does said before r′ after → (r ≡ r′) × (e ≡ e)
+verdict p q = (once p q .0, refl)

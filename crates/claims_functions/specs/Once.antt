@@ -1,22 +1,15 @@
--- The shapes of a promise, each with what it means that it admits one answer. A call that answers a reply over a lent buffer has
--- the shape `Does`, and for it that is `OneAnswer`.
-use Prim.Native.Nat.{ℕ}
+-- What it means that the contract of a function admits one answer.
 use mathlib.Core.Path.{_≡_}
-use mathlib.Core.List.{List}
-use Rattle.numbers.specs.declared.Reply.{Reply}
+use contract.Lifetimes.{Lfts}
+use denote.Triple.Entry.{Args, Res}
+use denote.Triple.Clauses.{Ended, AtExit, Lasts, atExit}
 
--- no second answer: two that fit the promise are equal
-abbrev pub One : {A : Type 0} → (A → Type 0) → Type 0
-One {A} Fits = (r r′ : A) → Fits r → Fits r′ → r ≡ r′
+-- what a contract tells a caller: a claim about the lifetimes, the arguments, the answer and the parameters as they are at exit
+abbrev pub Tells : Ended → Type 1
+Tells T = (κs : Lfts (T .signature .lifetimes)) → Args (T .signature) κs → Res (T .signature) κs → AtExit T κs → Type 0
 
--- a function that ensures what its answer equals
-abbrev pub Settled : {A : Type 0} → A → Type 0
-Settled {A} d = One (λ (r : A). r ≡ d)
-
--- a function that ensures what the buffer it was lent equals afterwards, to the last element
-abbrev pub Left : {A : Type 0} → List A → Type 0
-Left {A} d = One (λ (after : List A). after ≡ d)
-
--- a function that ensures the number and the count of its reply
-abbrev pub Replied : ℕ → ℕ → Type 0
-Replied n w = One (λ (r : Reply). (r .number ≡ n) × (r .written ≡ w))
+-- no second answer: at the same arguments two answers that a contract allows are equal, and so are two endings, which are what each
+-- lent buffer holds at exit, to the last element
+abbrev pub Settled : (T : Ended) → Tells T → Type 0
+Settled T Told = (κs : Lfts (T .signature .lifetimes)) (a : Args (T .signature) κs) (r r′ : Res (T .signature) κs) (ends ends′ : Lasts T κs a)
+    → Told κs a r (atExit T κs a ends) → Told κs a r′ (atExit T κs a ends′) → (r ≡ r′) × (ends ≡ ends′)

@@ -1,1 +1,1 @@
-// That every public function's promise admits one answer, as laws over the shapes of a promise.
+// That the contract of every public function admits one answer.
