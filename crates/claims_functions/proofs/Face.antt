@@ -1,0 +1,23 @@
+-- One answer to every promise of the C face: each call cites the law of its shape.
+-- Assumes nothing.
+use Rattle.claims_functions.specs.Face.{QuillgimletSettled}
+use Rattle.claims_functions.proofs.Once.{settled, answered, verdict}
+
+pub quillgimlet-once : QuillgimletSettled
+quillgimlet-once = record {
+  qg-usual = λ κs a r r′ ends ends′. settled;
+  qg-ask = λ κs a r r′ ends ends′. answered 2;
+  qg-answer = λ κs a r r′ ends ends′. answered 6;
+  qg-read-block = λ κs a r r′ ends ends′. answered 3;
+  qg-write-block = λ κs a r r′ ends ends′. answered 4;
+  qg-translate = λ κs a r r′ ends ends′. answered 6;
+  qg-validation-block = λ κs a r r′ ends ends′. answered 2;
+  qg-natural-pin = λ κs a r r′ ends ends′. answered 3;
+  qg-offset = λ κs a r r′ ends ends′. answered 7;
+  qg-offset-of-digits = λ κs a r r′ ends ends′. answered 4;
+  qg-differences = λ κs a r r′ ends ends′. answered 4;
+  qg-offset-verdict = λ κs a r r′ ends ends′. verdict;
+  qg-pvv-input = λ κs a r r′ ends ends′. answered 4;
+  qg-pvv = λ κs a r r′ ends ends′. answered 1;
+  qg-pvv-verdict = λ κs a r r′ ends ends′. verdict;
+}
