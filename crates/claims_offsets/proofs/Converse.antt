@@ -20,7 +20,8 @@ use Rattle.formats.specs.Formats.{codeOf, formatOf}
 use Rattle.pins.specs.Pins.{accountOf, accountField, sized}
 use Rattle.blocks.specs.Blocks.{readRow}
 use Rattle.ibm3624.specs.Ibm3624.{covers, covered, offsetOf, offsetText, moduloTen, digitEnd, offsetPresented}
-use Rattle.offsets.specs.Offsets.{given, pinAndNatural, digitsGiven, offsetJudged, digitsJudged, offsetVerdict, differencesOf, spelt}
+use Rattle.offsets.specs.Offsets.{given, pinAndNatural, digitsGiven, offsetJudged, digitsJudged, differencesOf, spelt}
+use Rattle.verdicts.specs.Verdicts.{offsetVerdict}
 use Rattle.pvv.specs.Pvv.{pvvOf, keyIndex, presented, pvvMade, pvvVerdict}
 use Rattle.claims_offsets.specs.Claims.{VerdictIsOffset, PvvVerdictIsPvv, OffsetIsReduced}
 use Rattle.claims_offsets.proofs.Texts.{offset-verifies}

@@ -23,8 +23,9 @@ use Rattle.translation.proofs.Laws.{call-translated}
 use Rattle.validation.specs.Validation.{validationRow, validationBlock}
 use Rattle.validation.proofs.Laws.{call-block}
 use Rattle.ibm3624.specs.Ibm3624.{tableSized, tableOf, naturalOf, naturalPin}
-use Rattle.offsets.specs.Offsets.{given, offsetMade, offsetOfDigits, differencesOf, offsetVerdict}
-use Rattle.offsets.proofs.Laws as offsets
+use Rattle.offsets.specs.Offsets.{given, offsetMade, offsetOfDigits, differencesOf}
+use Rattle.verdicts.specs.Verdicts.{offsetVerdict}
+use Rattle.verdicts.proofs.Laws as verdicts
 use Rattle.pvv.specs.Pvv.{pvvOf, pvvInput, pvvMade, pvvVerdict}
 use Rattle.pvv.proofs.Laws as pvvs
 use Rattle.claims_blocks.specs.Promises.{listed, OfCalls}
@@ -118,7 +119,7 @@ numbers-of-offset-calls =
       λ variable code check block account table enciphered offset. told verdictNumbers (SoMany 0)
           (offsetVerdict variable code check block account table enciphered offset) refl
           (verdict-only _ refl refl refl refl refl refl refl refl variable code check block account table enciphered offset)
-          (λ w e. ap length (offsets.verdict-nothing variable code check block account table enciphered offset w e)),
+          (λ w e. ap length (verdicts.verdict-nothing variable code check block account table enciphered offset w e)),
       λ code index block account room. told blockNumbers (SoMany 8) (pvvInput code index block account room) refl
           (input-only _ refl refl refl refl refl refl code index block account room)
           (input-eight code index block account room),

@@ -21,7 +21,8 @@ use Rattle.pins.specs.Pins.{digit, pinLength, digitsHanded, pinHanded, padded, 
 use Rattle.blocks.specs.Blocks.{readRow}
 use Rattle.validation.specs.Validation.{letterP, isWhole, isTemplate, replaced, validationRow}
 use Rattle.ibm3624.specs.Ibm3624.{tableSized, tableOf, naturalOf, naturalHanded, checkLength, covers, differences, covered, offsetOf, offsetText, digitEnd, offsetPresented}
-use Rattle.offsets.specs.Offsets.{given, pinWithNatural, pinAndNatural, digitsGiven, offsetJudged, digitsJudged, offsetMade, offsetOfDigits, differencesOf, offsetVerdict}
+use Rattle.offsets.specs.Offsets.{given, pinWithNatural, pinAndNatural, digitsGiven, offsetJudged, digitsJudged, offsetMade, offsetOfDigits, differencesOf}
+use Rattle.verdicts.specs.Verdicts.{offsetVerdict}
 use Rattle.pvv.specs.Pvv.{pvvOf, inputRow, keyIndex, presented, pvvInput, pvvVerdict}
 use Rattle.claims_blocks.proofs.Judged.{Only, Fault, done-only, refused-only, test-only, then-only}
 use Rattle.claims_blocks.proofs.Trips.{read-faults}

@@ -18,8 +18,9 @@ use Rattle.numbers.specs.declared.Refusal.the-variants.{Field15, Check81, Room9
 use Rattle.numbers.proofs.Laws.{passed, then-done, value-of}
 use Rattle.ibm3624.specs.Ibm3624.{checkLength, covers, covered, offsetOf, offsetText, digitEnd, offsetPresented}
 use Rattle.ibm3624.proofs.Laws.{reduced-below, offset-length, text-length, text-head}
-use Rattle.offsets.specs.Offsets.{given, pinAndNatural, offsetFor, offsetJudged, offsetVerdict}
+use Rattle.offsets.specs.Offsets.{given, pinAndNatural, offsetFor, offsetJudged}
 use Rattle.offsets.proofs.Laws.{Alike, valueIn, pair-back, pair-fit, pair-alike, given-laid, covers-within, matched}
+use Rattle.verdicts.specs.Verdicts.{offsetVerdict}
 use Rattle.claims_blocks.proofs.Lists.{run-is, every-map}
 use Rattle.claims_blocks.specs.Claims.{IsBytes}
 use Rattle.claims_offsets.specs.Claims.{OffsetVerifies}

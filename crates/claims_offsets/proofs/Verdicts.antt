@@ -12,7 +12,8 @@ use Rattle.numbers.specs.Numbers.{Outcome, done, unless}
 use Rattle.numbers.specs.declared.Refusal.the-variants.{Unverified01}
 use Rattle.numbers.proofs.Laws.{passed}
 use Rattle.ibm3624.specs.Ibm3624.{covers, offsetOf, offsetPresented}
-use Rattle.offsets.specs.Offsets.{given, pinAndNatural, offsetVerdict}
+use Rattle.offsets.specs.Offsets.{given, pinAndNatural}
+use Rattle.verdicts.specs.Verdicts.{offsetVerdict}
 use Rattle.pvv.specs.Pvv.{pvvOf, pvvVerdict}
 use Rattle.claims_offsets.specs.Claims.{Exactly, VerdictExactly, PvvVerdictExactly}
 

@@ -7,7 +7,8 @@ use lib.ListN.{length}
 use Rattle.numbers.specs.Promise.{Said, quietly}
 use Rattle.validation.specs.Validation.{validationBlock}
 use Rattle.ibm3624.specs.Ibm3624.{naturalPin}
-use Rattle.offsets.specs.Offsets.{offsetMade, offsetOfDigits, differencesOf, offsetVerdict}
+use Rattle.offsets.specs.Offsets.{offsetMade, offsetOfDigits, differencesOf}
+use Rattle.verdicts.specs.Verdicts.{offsetVerdict}
 use Rattle.pvv.specs.Pvv.{pvvInput, pvvMade, pvvVerdict}
 use Rattle.claims_blocks.specs.Claims.{IsBytes}
 use Rattle.claims_blocks.specs.Promises.{listed, reads, writes, translates}

@@ -1,18 +1,17 @@
 -- The calls of "Offset, verdict and PVV" that the IBM 3624 method answers, each in its order of judging.
 use Prim.Native.Nat.{ℕ}
-use mathlib.Core.List.{List, []}
+use mathlib.Core.List.{List}
 use mathlib.Core.Bool.{Bool}
 use lib.ListN.{length}
 use lib.IntN.{ℤ}
-use lib.Dec.{leb, eqb}
-use Rattle.nibbles.specs.Nibbles.{same}
+use lib.Dec.{leb}
 use Rattle.numbers.specs.Numbers.{Outcome, done, andThen, unless}
-use Rattle.numbers.specs.declared.Refusal.the-variants.{Unverified01, Check81, Room901}
+use Rattle.numbers.specs.declared.Refusal.the-variants.{Room901}
 use Rattle.formats.specs.Formats.{codeOf, formatOf, blockWidth}
 use Rattle.formats.specs.declared.Format.{Format}
 use Rattle.pins.specs.Pins.{pinHanded, accountOf, accountField, sized}
 use Rattle.blocks.specs.Blocks.{readRow}
-use Rattle.ibm3624.specs.Ibm3624.{tableSized, tableOf, naturalOf, naturalHanded, checkLength, covers, covered, offsetOf, offsetText, offsetPresented}
+use Rattle.ibm3624.specs.Ibm3624.{tableSized, tableOf, naturalOf, naturalHanded, checkLength, covers, covered, offsetOf, offsetText}
 
 -- 15: check length, block, account, table and enciphered block; the block's and the enciphered nibbles and the account's digits
 unfoldable pub given : ℕ → ℕ → List ℕ → List ℕ → List ℕ → List ℕ → Outcome (List ℕ × List ℕ × List ℕ)
@@ -80,17 +79,3 @@ differencesOf variable check pin natural room =
     (λ _. andThen (digitsGiven check pin natural)
     (λ p. andThen (covers variable check (length (p .0)))
     (λ m. done (covered m (p .0) (p .1)))))
-
--- "m over n or an offset without exactly m digits is 81. The verdict is 00 exactly when the offset is the one defined above, otherwise 01"
-abbrev pub verdictOn : Bool → ℕ → List ℕ → List ℕ × List ℕ → Outcome (List ℕ)
-verdictOn variable check os p =
-    andThen (covers variable check (length (p .0)))
-    (λ m. andThen (unless Check81 (eqb (length os) m) m)
-    (λ _. unless Unverified01 (same os (offsetOf m (p .0) (p .1))) []))
-
--- the verdict on a presented offset, which is judged with the other fields at 15
-unfoldable pub offsetVerdict : Bool → ℕ → ℕ → List ℕ → List ℕ → List ℕ → List ℕ → List ℕ → Outcome (List ℕ)
-offsetVerdict variable code check block account table enciphered offset =
-    andThen (given code check block account table enciphered)
-    (λ g. andThen (offsetPresented offset)
-    (λ os. andThen (pinAndNatural code table g) (verdictOn variable check os)))

@@ -1,14 +1,12 @@
-// The IBM 3624 calls over a block or over digits: offset, differences and verdict.
+// The IBM 3624 calls over a block or over digits: offset and differences.
 ghost use mathlib.Core.Path.{_≡_};
-ghost use mathlib.Core.List.{[]};
 ghost use Prim.Native.Nat.{_^_, _<_, _≤_};
 ghost use lib.ListN.{length};
 ghost use Rattle.nibbles.specs.Nibbles.{every, row};
 ghost use Rattle.numbers.specs.Promise.{Does, quietly};
 ghost use Rattle.pins.specs.Pins.{digit};
-ghost use Rattle.pins.specs.Answers.{readingOf, rowOf};
-ghost use Rattle.blocks.specs.Answers.{digitsOf};
-ghost use Rattle.offsets.specs.Offsets.{given, pinWithNatural, pinAndNatural, digitsGiven, offsetFor, offsetJudged, digitsJudged, offsetMade, offsetOfDigits, differencesOf, verdictOn, offsetVerdict};
+ghost use Rattle.pins.specs.Answers.{readingOf};
+ghost use Rattle.offsets.specs.Offsets.{given, pinWithNatural, pinAndNatural, digitsGiven, offsetFor, offsetJudged, digitsJudged, offsetMade, offsetOfDigits, differencesOf};
 ghost use Rattle.offsets.specs.Answers.{givenOf, comparisonOf, refusalIn, rowsIn, pairIn, Fit, textOf, Roomy};
 use formats::Chosen;
 use formats::Format;
@@ -59,7 +57,7 @@ impl Comparison {
 }
 
 // 15, field by field: check length, block, account, table and enciphered block.
-fn taken(
+pub fn taken(
     format: u32,
     check: u32,
     block: &[u8],
@@ -116,7 +114,7 @@ pub fn with_natural(format: Format, table: u64, rows: Rows) -> Comparison
 }
 
 // 23, 69, 25, the block: the PIN with its natural PIN.
-fn paired(format: u32, table: &[u8], rows: Rows) -> Comparison
+pub fn paired(format: u32, table: &[u8], rows: Rows) -> Comparison
     requires { ⌜ (length (now table) ≡ 16) × (rows .account < 16 ^ 12) ⌝ }
     ensures { λ r. ⌜ r ≡ comparisonOf (pinAndNatural format (now (table .entry)) (rowsIn rows)) ⌝ }
 {
@@ -310,79 +308,4 @@ pub fn differences(
     };
     ibm3624::put_differences(m, n, p.pin, p.natural, out);
     Reply::done(m as u32)
-}
-
-// 81 for the offset's length, then the verdict; 00 is a row of nothing.
-pub fn verdict_on(variable: bool, check: u32, presented: Pin, p: Compared) -> Row
-    requires { ⌜ Fit p × (presented .digits < 16 ^ presented .length) ⌝ }
-    ensures { λ r. ⌜ r ≡ rowOf (verdictOn variable check (digitsOf presented) (pairIn p)) ⌝ }
-{
-    let made = offset_for(variable, check, p);
-    let Reading::Got(offset) = made else {
-        return Row::Refused(Refusal::Check81);
-    };
-    if presented.length != offset.length {
-        return Row::Refused(Refusal::Check81);
-    }
-    if presented.digits != offset.digits {
-        return Row::Refused(Refusal::Unverified01);
-    }
-    Row::Held(0)
-}
-
-// Judges the verdict: 15, the presented offset among them, 23, 69, 25, the block, 81.
-fn judged_verdict(
-    variable: bool,
-    format: u32,
-    check: u32,
-    block: &[u8],
-    account: &[u8],
-    table: &[u8],
-    enciphered: &[u8],
-    offset: &[u8],
-) -> Row
-    ensures { λ r. ⌜ r ≡ rowOf (offsetVerdict variable format check (now (block .entry)) (now (account .entry)) (now (table .entry)) (now (enciphered .entry)) (now (offset .entry))) ⌝ }
-{
-    let fields = taken(format, check, block, account, table, enciphered);
-    let Given::Of(rows) = fields else {
-        return Row::Refused(Refusal::Field15);
-    };
-    let shown = ibm3624::presented(offset);
-    let Reading::Got(presented) = shown else {
-        return Row::Refused(Refusal::Field15);
-    };
-    let comparison = paired(format, table, rows);
-    let Comparison::Of(p) = comparison else {
-        return Row::Refused(comparison.refusal());
-    };
-    verdict_on(variable, check, presented, p)
-}
-
-// Gives the verdict on an offset that is presented.
-pub fn offset_verdict(
-    settings: Settings,
-    format: u32,
-    check: u32,
-    block: &[u8],
-    account: &[u8],
-    table: &[u8],
-    enciphered: &[u8],
-    offset: &[u8],
-) -> Reply
-    ensures { λ r. ⌜ Does (quietly (offsetVerdict (settings .variable) format check (now (block .entry)) (now (account .entry)) (now (table .entry)) (now (enciphered .entry)) (now (offset .entry)))) [] r [] ⌝ }
-{
-    let judged = judged_verdict(
-        settings.variable,
-        format,
-        check,
-        block,
-        account,
-        table,
-        enciphered,
-        offset,
-    );
-    let Row::Held(_) = judged else {
-        return Reply::refused(judged.refusal());
-    };
-    Reply::done(0)
 }

@@ -7,7 +7,8 @@ ghost use mathlib.Core.List.{[]};
 ghost use Rattle.translation.specs.Translation.{translateBlock};
 ghost use Rattle.validation.specs.Validation.{validationBlock};
 ghost use Rattle.ibm3624.specs.Ibm3624.{naturalPin};
-ghost use Rattle.offsets.specs.Offsets.{offsetMade, offsetOfDigits, differencesOf, offsetVerdict};
+ghost use Rattle.offsets.specs.Offsets.{offsetMade, offsetOfDigits, differencesOf};
+ghost use Rattle.verdicts.specs.Verdicts.{offsetVerdict};
 ghost use Rattle.pvv.specs.Pvv.{pvvInput, pvvMade, pvvVerdict};
 ghost use Rattle.settings.specs.Settings.{usually};
 ghost use Rattle.commands.specs.Commands.{asked, answered};
@@ -199,7 +200,7 @@ pub extern "C" fn qg_offset_verdict(
 ) -> Reply
     ensures { λ r. ⌜ Does (quietly (offsetVerdict (yes? (settings .variable)) format check (now (block .entry)) (now (account .entry)) (now (table .entry)) (now (enciphered .entry)) (now (offset .entry)))) [] r [] ⌝ }
 {
-    offsets::offset_verdict(
+    verdicts::offset_verdict(
         inner(settings),
         format,
         check,

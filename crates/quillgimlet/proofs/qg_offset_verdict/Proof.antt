@@ -2,7 +2,7 @@
 -- Assumes nothing.
 use mathlib.Core.Path.{ap}
 use borrow.Author.Needs.{needs}
-use Rattle.offsets.specs.Offsets.{offsetVerdict}
+use Rattle.verdicts.specs.Verdicts.{offsetVerdict}
 use Rattle.settings.specs.declared.Settings.{Settings}
 use Rattle.numbers.proofs.Laws.{does-as}
 use Rattle.quillgimlet.proofs.qg_offset_verdict.Statement.{statement}

@@ -1,13 +1,15 @@
--- `offsets::judged_verdict` meets its contract.
+-- `verdicts::judged_verdict` meets its contract.
 -- Assumes nothing.
 use Prim.Native.Nat.{ℕ, _<_, _^_}
 use mathlib.Core.List.{List}
 use mathlib.Core.Path.{ap, ap₂, sym, _∙_, subst}
 use borrow.Author.Needs.{needs}
-use Rattle.offsets.proofs.Laws.{given-of, given-bad, given-refused, given-laid, laid-back, laid-account, comparison-of, comparison-bad, pair-alike, pair-fit, pair-back, presented-refused, presented-below}
+use Rattle.offsets.proofs.Laws.{given-of, given-bad, given-refused, given-laid, laid-back, laid-account, comparison-of, comparison-bad, pair-alike, pair-fit, pair-back}
+use Rattle.verdicts.proofs.Laws.{presented-refused, presented-below}
 use Rattle.offsets.specs.declared.Rows.{Rows}
 use Rattle.offsets.specs.Answers.{comparisonOf, refusalIn, rowsIn, pairIn, Fit}
-use Rattle.offsets.specs.Offsets.{given, pinAndNatural, verdictOn, offsetVerdict}
+use Rattle.offsets.specs.Offsets.{given, pinAndNatural}
+use Rattle.verdicts.specs.Verdicts.{verdictOn, offsetVerdict}
 use Rattle.ibm3624.specs.Ibm3624.{offsetPresented}
 use Rattle.blocks.specs.Answers.{digitsOf}
 use Rattle.pins.proofs.Laws.{reading-got, reading-bad}
@@ -15,8 +17,8 @@ use Rattle.pins.specs.declared.Row.the-variants.{Refused}
 use Rattle.pins.specs.declared.Pin.{Pin}
 use Rattle.pins.specs.Answers.{rowOf}
 use Rattle.nibbles.proofs.Laws.{bytes-below, row-word, word-lt}
-use Rattle.offsets.proofs.judged_verdict.Statement.{statement}
-use Rattle.offsets.proofs.judged_verdict.Tie as tie
+use Rattle.verdicts.proofs.judged_verdict.Statement.{statement}
+use Rattle.verdicts.proofs.judged_verdict.Tie as tie
 
 taken-requires : tie.Need-taken-requires
 taken-requires c κs = search needs

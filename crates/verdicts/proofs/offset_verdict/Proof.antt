@@ -1,16 +1,16 @@
--- `offsets::offset_verdict` meets its contract.
+-- `verdicts::offset_verdict` meets its contract.
 -- Assumes nothing.
 use mathlib.Core.List.{[]}
 use mathlib.Core.Path.{ap, refl, sym, _∙_}
 use borrow.Author.Needs.{needs}
-use Rattle.offsets.proofs.Laws.{verdict-nothing}
-use Rattle.offsets.specs.Offsets.{offsetVerdict}
+use Rattle.verdicts.proofs.Laws.{verdict-nothing}
+use Rattle.verdicts.specs.Verdicts.{offsetVerdict}
 use Rattle.pins.proofs.Laws.{row-held, row-refused}
 use Rattle.pins.specs.Answers.{refusedIn}
 use Rattle.numbers.proofs.Laws.{does-refuse, does-write}
 use Rattle.numbers.specs.Numbers.{done, numberOf}
-use Rattle.offsets.proofs.offset_verdict.Statement.{statement}
-use Rattle.offsets.proofs.offset_verdict.Tie as tie
+use Rattle.verdicts.proofs.offset_verdict.Statement.{statement}
+use Rattle.verdicts.proofs.offset_verdict.Tie as tie
 
 judged-verdict-requires : tie.Need-judged-verdict-requires
 judged-verdict-requires c κs = search needs

@@ -1,17 +1,17 @@
--- `offsets::verdict_on` meets its contract.
+-- `verdicts::verdict_on` meets its contract.
 -- Assumes nothing.
 use mathlib.Core.Path.{ap, sym, _∙_}
 use borrow.Author.Needs.{needs}
-use Rattle.offsets.proofs.Laws.{verdict-long, verdict-other-length, verdict-other, verdict-same, none-word}
+use Rattle.verdicts.proofs.Laws.{verdict-long, verdict-other-length, verdict-other, verdict-same, none-word}
 use Rattle.offsets.specs.Answers.{pairIn}
 use Rattle.offsets.specs.Offsets.{offsetFor}
 use Rattle.blocks.specs.Answers.{digitsOf}
 use Rattle.pins.proofs.Laws.{reading-got, reading-bad}
 use Rattle.pins.specs.declared.Row.the-variants.{Held}
 use Rattle.pins.specs.declared.Pin.{Pin}
 use Rattle.nibbles.proofs.Laws.{row-length}
-use Rattle.offsets.proofs.verdict_on.Statement.{statement}
-use Rattle.offsets.proofs.verdict_on.Tie as tie
+use Rattle.verdicts.proofs.verdict_on.Statement.{statement}
+use Rattle.verdicts.proofs.verdict_on.Tie as tie
 
 offset-for-requires : tie.Need-offset-for-requires
 offset-for-requires c κs = search needs
