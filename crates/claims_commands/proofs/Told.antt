@@ -4,15 +4,12 @@ use Prim.Native.Nat.{ℕ, zero, suc, _+_, _-_}
 use native.Mathlib.Omega.{arith}
 use mathlib.Core.Path.{_≡_, refl, sym, ap, ap₂, _∙_}
 use mathlib.Core.List.{List, [], _∷_, _++_, append-cancel-left, append-cancel-right}
-use mathlib.Core.Bool.{Bool, cond}
+use mathlib.Core.Bool.{Bool}
 use lib.ListN.{length, drop, replicate}
-use lib.Dec.{eqb}
 use Rattle.nibbles.proofs.Laws.{Below}
 use Rattle.alphabet.specs.Alphabet.{characters}
 use Rattle.numbers.specs.Numbers.{Outcome, done, refused, andThen, numberOf}
 use Rattle.numbers.specs.Promise.{Said}
-use Rattle.numbers.specs.declared.Refusal.{Refusal}
-use Rattle.numbers.specs.declared.Refusal.the-variants.{Unverified01, WeakList03, PinKeyParity10, PvkParity11, Field15, Block20, Format23, Length24, Table25, Key26, Use29, Code68, NotHere69, Check81, Weak86, Room901, Frame902}
 use Rattle.settings.specs.declared.Settings.{Settings}
 use Rattle.ibm3624.specs.Ibm3624.{offsetText}
 use Rattle.frame.specs.Frame.{opening}
@@ -21,56 +18,11 @@ use Rattle.bk.specs.declared.Bk.{Bk}
 use Rattle.bk.proofs.Places.{answer-held}
 use Rattle.commands.specs.Commands.{answerBy, answered, responding}
 use Rattle.commands.proofs.Laws.{answered-framed}
+use Rattle.claims_offsets.proofs.Numbers.{number-once, never-00}
 use Rattle.claims_commands.specs.Runs.{Reaches}
 use Rattle.claims_commands.specs.Claims.{AnswerAlike, ResponsesTell}
 use Rattle.claims_commands.proofs.Places.{places-behind}
 use Rattle.claims_commands.proofs.Alike.{read-alike, trailer-alike, opening-alike}
-
--- ---- numbers
-
--- what has a number: the refusal of a list that has it, else nothing is refused
-numbered : ℕ → List Refusal → Outcome ℕ
-numbered n [] = done n
-numbered n (q ∷ qs) = cond (eqb (numberOf q) n) (refused q) (numbered n qs)
-
--- all of them
-refusals : List Refusal
-refusals =
-    Unverified01 ∷ WeakList03 ∷ PinKeyParity10 ∷ PvkParity11 ∷ Field15 ∷ Block20 ∷ Format23 ∷ Length24 ∷ Table25 ∷ Key26 ∷ Use29 ∷ Code68 ∷ NotHere69 ∷ Check81
-    ∷ Weak86 ∷ Room901 ∷ Frame902 ∷ []
-
--- the refusal is found by its number
-named : (q : Refusal) → numbered (numberOf q) refusals ≡ refused q
-unfolding numbered refusals
-named Unverified01 = refl
-named WeakList03 = refl
-named PinKeyParity10 = refl
-named PvkParity11 = refl
-named Field15 = refl
-named Block20 = refl
-named Format23 = refl
-named Length24 = refl
-named Table25 = refl
-named Key26 = refl
-named Use29 = refl
-named Code68 = refl
-named NotHere69 = refl
-named Check81 = refl
-named Weak86 = refl
-named Room901 = refl
-named Frame902 = refl
-
--- a number is that of one refusal
-pub number-once : (q r : Refusal) → numberOf q ≡ numberOf r → q ≡ r
-number-once q r e = let z : refused q ≡ refused r = sym (named q) ∙ ap (λ (n : ℕ). numbered n refusals) e ∙ named r in cc
-
--- and never 00
-pub never-00 : (q : Refusal) → 0 ≡ numberOf q → ⊥
-unfolding numbered refusals
-never-00 q e =
-    let none : numbered 0 refusals ≡ done 0 = refl in
-    let some : numbered 0 refusals ≡ refused q = ap (λ (n : ℕ). numbered n refusals) e ∙ named q in
-    let z : _≡_ {A = ℕ} 0 1 = cc in omega arith
 
 -- ---- texts
 

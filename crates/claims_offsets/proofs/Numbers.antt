@@ -1,10 +1,10 @@
 -- The numbers that the calls below the command level answer, and the count with each.
 -- Assumes nothing.
-use Prim.Native.Nat.{ℕ, _-_}
+use Prim.Native.Nat.{ℕ}
 use native.Mathlib.Omega.{arith}
 use mathlib.Core.Path.{_≡_, refl, sym, ap, _∙_}
-use mathlib.Core.List.{List}
-use mathlib.Core.Bool.{true, false, false≢true}
+use mathlib.Core.List.{List, [], _∷_}
+use mathlib.Core.Bool.{true, false, cond, false≢true}
 use lib.ListN.{length}
 use lib.Dec.{leb, eqb}
 use borrow.Author.Tests.{eq-eqb}
@@ -35,6 +35,52 @@ use Rattle.claims_offsets.specs.Numbers.{Numbered, SoMany, FourToTwelve,
 use Rattle.claims_offsets.proofs.Refused.{room-only, account-only, sized-only, table-sized-only, table-only, length-only, validation-only, made-only, of-digits-only, differences-only, verdict-only, input-only, pvv-verdict-only}
 use Rattle.claims_offsets.proofs.Counts.{eight, natural-counts, made-twelve, of-digits-twelve, differences-counts, input-eight, pvv-four}
 
+-- ---- the numbers of refusals
+
+-- what has a number: the refusal of a list that has it, else nothing is refused
+numbered : ℕ → List Refusal → Outcome ℕ
+numbered n [] = done n
+numbered n (q ∷ qs) = cond (eqb (numberOf q) n) (refused q) (numbered n qs)
+
+-- all of them
+refusals : List Refusal
+refusals =
+    Unverified01 ∷ WeakList03 ∷ PinKeyParity10 ∷ PvkParity11 ∷ Field15 ∷ Block20 ∷ Format23 ∷ Length24 ∷ Table25 ∷ Key26 ∷ Use29 ∷ Code68 ∷ NotHere69 ∷ Check81
+    ∷ Weak86 ∷ Room901 ∷ Frame902 ∷ []
+
+-- the refusal is found by its number
+named : (q : Refusal) → numbered (numberOf q) refusals ≡ refused q
+unfolding numbered refusals
+named Unverified01 = refl
+named WeakList03 = refl
+named PinKeyParity10 = refl
+named PvkParity11 = refl
+named Field15 = refl
+named Block20 = refl
+named Format23 = refl
+named Length24 = refl
+named Table25 = refl
+named Key26 = refl
+named Use29 = refl
+named Code68 = refl
+named NotHere69 = refl
+named Check81 = refl
+named Weak86 = refl
+named Room901 = refl
+named Frame902 = refl
+
+-- a number is that of one refusal
+pub number-once : (q r : Refusal) → numberOf q ≡ numberOf r → q ≡ r
+number-once q r e = let z : refused q ≡ refused r = sym (named q) ∙ ap (λ (n : ℕ). numbered n refusals) e ∙ named r in cc
+
+-- and never 00
+pub never-00 : (q : Refusal) → 0 ≡ numberOf q → ⊥
+unfolding numbered refusals
+never-00 q e =
+    let none : numbered 0 refusals ≡ done 0 = refl in
+    let some : numbered 0 refusals ≡ refused q = ap (λ (n : ℕ). numbered n refusals) e ∙ named q in
+    let z : _≡_ {A = ℕ} 0 1 = cc in omega arith
+
 -- ---- variable length
 
 -- any number but 81
@@ -59,31 +105,11 @@ made-never-81 = (
 abbrev In : List ℕ → Refusal → Type 0
 In numbers q = listed (numberOf q) numbers ≡ true
 
--- no refusal has 00
-not-zero : (q : Refusal) → numberOf q ≡ 0 → ⊥
-not-zero Unverified01 e = omega arith
-not-zero WeakList03 e = omega arith
-not-zero PinKeyParity10 e = omega arith
-not-zero PvkParity11 e = omega arith
-not-zero Field15 e = omega arith
-not-zero Block20 e = omega arith
-not-zero Format23 e = omega arith
-not-zero Length24 e = omega arith
-not-zero Table25 e = omega arith
-not-zero Key26 e = omega arith
-not-zero Use29 e = omega arith
-not-zero Code68 e = omega arith
-not-zero NotHere69 e = omega arith
-not-zero Check81 e = omega arith
-not-zero Weak86 e = omega arith
-not-zero Room901 e = omega arith
-not-zero Frame902 e = omega arith
-
 -- what is refused for these numbers only, and done with right counts only
 told : {A : Type 0} (numbers : List ℕ) (counts : ℕ → Type 0) (o : Outcome (List A)) → listed 0 numbers ≡ true → Only (In numbers) o
     → ((w : List A) → o ≡ done w → counts (length w)) → Numbered numbers counts (quietly o)
 told numbers counts (done w) z c long = (z, λ _. long w refl, λ h. absurd (h refl))
-told numbers counts (refused q) z c long = (c q refl, λ e. absurd (not-zero q e), λ _. refl)
+told numbers counts (refused q) z c long = (c q refl, λ e. absurd (never-00 q (sym e)), λ _. refl)
 
 -- ---- the nine calls
 
