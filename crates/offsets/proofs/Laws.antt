@@ -35,12 +35,12 @@ use Rattle.offsets.specs.declared.Comparison.the-variants as comparison
 
 -- ---- behind the answers
 
-pub given-of : (o : Outcome (List ℕ × List ℕ × List ℕ)) (r : Rows) → taken.Of r ≡ givenOf o
+given-of : (o : Outcome (List ℕ × List ℕ × List ℕ)) (r : Rows) → taken.Of r ≡ givenOf o
     → (g : List ℕ × List ℕ × List ℕ) × (o ≡ done g) × (r ≡ record { block = word (g .0); account = word (g .1); enciphered = word (g .2) })
 given-of (done g) r e = (g, refl, cc)
 given-of (refused q) r e = absurd (let z : _≡_ {A = ℕ} 0 1 = cc in omega arith)
 
-pub given-bad : (o : Outcome (List ℕ × List ℕ × List ℕ)) (q : Refusal) → taken.Bad q ≡ givenOf o → o ≡ refused q
+given-bad : (o : Outcome (List ℕ × List ℕ × List ℕ)) (q : Refusal) → taken.Bad q ≡ givenOf o → o ≡ refused q
 given-bad (done g) q e = absurd (let z : _≡_ {A = ℕ} 0 1 = cc in omega arith)
 given-bad (refused p) q e = cc
 
@@ -97,7 +97,7 @@ digits-alike check pin natural p e =
 
 module _ (f : Format) (ts : List ℕ) (g : List ℕ × List ℕ × List ℕ) (ns : length (g .0) ≡ 16) (digits : length (g .1) ≡ 12) (es : length (g .2) ≡ 16) where
   -- what is read from a block, and made of an enciphered block through a table of digits
-  pub natural-alike : Below 10 ts → (p : List ℕ × List ℕ) → pinWithNatural f ts g ≡ done p → Alike p
+  natural-alike : Below 10 ts → (p : List ℕ × List ℕ) → pinWithNatural f ts g ≡ done p → Alike p
   unfolding pinWithNatural
   natural-alike table p e =
       let d = then-done (readRow f (accountField (g .1)) (g .0)) _ p e in
@@ -173,7 +173,7 @@ pub record Laid (table : List ℕ) (g : List ℕ × List ℕ × List ℕ) : Type
   pub whole : length table ≡ 16
 
 module _ (code check : ℕ) (block account table enciphered : List ℕ) where
-  pub given-refused : (q : Refusal) → given code check block account table enciphered ≡ refused q → given code check block account table enciphered ≡ refused Field15
+  given-refused : (q : Refusal) → given code check block account table enciphered ≡ refused q → given code check block account table enciphered ≡ refused Field15
   unfolding given
   given-refused =
       only-then (checkLength check) _ (only-unless (within 4 12 check) check)
@@ -199,14 +199,14 @@ module _ (code check : ℕ) (block account table enciphered : List ℕ) where
       })
 
   -- the words that hold them
-  pub laid-back : (g : List ℕ × List ℕ × List ℕ) → Laid table g → rowsIn (record { block = word (g .0); account = word (g .1); enciphered = word (g .2) }) ≡ g
+  laid-back : (g : List ℕ × List ℕ × List ℕ) → Laid table g → rowsIn (record { block = word (g .0); account = word (g .1); enciphered = word (g .2) }) ≡ g
   laid-back g l =
       ap₃ (sixteen-word (g .0) (l .ns)) (ap (λ (n : ℕ). row n (word (g .1))) (sym (l .digits .0)) ∙ row-word (g .1) (l .digits .1)) (sixteen-word (g .2) (l .es))
     where
       ap₃ : {x x′ y y′ z z′ : List ℕ} → x ≡ x′ → y ≡ y′ → z ≡ z′ → _≡_ {A = List ℕ × List ℕ × List ℕ} (x, y, z) (x′, y′, z′)
       ap₃ p q r = λ i. (p i, q i, r i)
 
-  pub laid-account : (g : List ℕ × List ℕ × List ℕ) → Laid table g → word (g .1) < 16 ^ 12
+  laid-account : (g : List ℕ × List ℕ × List ℕ) → Laid table g → word (g .1) < 16 ^ 12
   laid-account g l = word-under 12 (g .1) (l .digits .1) (omega (arith, l .digits .0))
 
   -- the PIN and natural PIN made of them
@@ -217,6 +217,35 @@ module _ (code check : ℕ) (block account table enciphered : List ℕ) where
       let t = then-done (tableOf table) _ p (f .2) in
       let tp = passed Table25 (allOf Digit table) (map valueOf table) (t .0) (t .1) in
       natural-alike (f .0) (t .0) g (l .ns .long) (l .digits .0) (l .es .long) (subst (Below 10) (tp .1) (digits-below table (tp .0))) p (t .2)
+
+  -- words that were given hold them, and why none were
+  pub given-fit :
+      Below 256 block → Below 256 enciphered → (r : Rows) → taken.Of r ≡ givenOf (given code check block account table enciphered)
+      → (g : List ℕ × List ℕ × List ℕ) × (given code check block account table enciphered ≡ done g) × Laid table g × (r .account < 16 ^ 12) × (rowsIn r ≡ g)
+  given-fit b c r e =
+      let g = given-of (given code check block account table enciphered) r e in
+      let laid = given-laid b c (g .0) (g .1) in
+      (g .0, g .1, laid, subst (λ (x : Rows). x .account < 16 ^ 12) (sym (g .2)) (laid-account (g .0) laid), ap rowsIn (g .2) ∙ laid-back (g .0) laid)
+
+  pub given-none : (q : Refusal) → taken.Bad q ≡ givenOf (given code check block account table enciphered) → given code check block account table enciphered ≡ refused Field15
+  given-none q e = given-refused q (given-bad (given code check block account table enciphered) q e)
+
+  -- the PIN and natural PIN of such words, and why there are none
+  module _ (b : Below 256 block) (c : Below 256 enciphered) (r : Rows) (e : taken.Of r ≡ givenOf (given code check block account table enciphered)) where
+    pub given-compared :
+        (x : Compared) → comparison.Of x ≡ comparisonOf (pinAndNatural code table (rowsIn r))
+        → (g : List ℕ × List ℕ × List ℕ) × (given code check block account table enciphered ≡ done g) × (p : List ℕ × List ℕ) × (pinAndNatural code table g ≡ done p) × Fit x × (pairIn x ≡ p)
+    given-compared x h =
+        let g = given-fit b c r e in
+        let p = comparison-fit (pinAndNatural code table (g .0)) (pair-alike (g .0) (g .2)) x (subst (λ (l : List ℕ × List ℕ × List ℕ). comparison.Of x ≡ comparisonOf (pinAndNatural code table l)) (g .4) h) in
+        (g .0, g .1, p .0, p .1, p .2, p .3)
+
+    pub given-incomparable :
+        (q : Refusal) → comparison.Bad q ≡ comparisonOf (pinAndNatural code table (rowsIn r))
+        → (g : List ℕ × List ℕ × List ℕ) × (given code check block account table enciphered ≡ done g) × (pinAndNatural code table g ≡ refused q)
+    given-incomparable q h =
+        let g = given-fit b c r e in
+        (g .0, g .1, subst (λ (l : List ℕ × List ℕ × List ℕ). pinAndNatural code table l ≡ refused q) (g .4) (comparison-bad (pinAndNatural code table (rowsIn r)) q h))
 
 -- ---- an outcome that is an offset, as the answer that is written
 

@@ -11,9 +11,12 @@ use lib.Dec.{leb, eqb, lit≤}
 use borrow.Author.Tests.{eq-eqb, ne-eqb}
 use Rattle.alphabet.proofs.Laws.{value-below}
 use Rattle.pins.specs.declared.Pin.{Pin}
+use Rattle.pins.specs.declared.Reading.the-variants.{Got}
+use Rattle.pins.specs.Answers.{readingOf}
+use Rattle.pins.proofs.Laws.{reading-got}
 use Rattle.blocks.specs.Answers.{digitsOf}
 use Rattle.nibbles.specs.Nibbles.{row, word, within, every, same}
-use Rattle.nibbles.proofs.Laws.{Below, row-word, below-weaken, row-length, word-row, same-refl, same-false, map-below}
+use Rattle.nibbles.proofs.Laws.{Below, row-word, below-weaken, row-length, word-row, word-lt, same-refl, same-false, map-below}
 use Rattle.numbers.specs.Numbers.{Outcome, done, refused, andThen, unless}
 use Rattle.numbers.specs.declared.Refusal.{Refusal}
 use Rattle.numbers.specs.declared.Refusal.the-variants.{Field15, Check81, Unverified01}
@@ -28,10 +31,6 @@ use Rattle.offsets.proofs.Laws.{covers-within, covers-not, matched}
 use Rattle.verdicts.specs.Verdicts.{verdictOn, offsetVerdict}
 
 -- ---- the verdict, return by return
-
-pub none-word : 0 ≡ word []
-unfolding word
-none-word = refl
 
 -- where no offset can be made, no verdict can be given
 pub verdict-long : (variable : Bool) (check : ℕ) (os : List ℕ) (p : List ℕ × List ℕ) (q : Refusal) → offsetFor variable check p ≡ refused q → verdictOn variable check os p ≡ refused Check81
@@ -82,10 +81,17 @@ pub presented-refused : (cs : List ℕ) (q : Refusal) → offsetPresented cs ≡
 presented-refused cs q e =
     failed Field15 q (eqb (length cs) 12 && (leb 4 (digitEnd cs) && every (within 0x46 0x46) (drop (digitEnd cs) cs))) (map valueOf (take (digitEnd cs) cs)) e .1
 
-pub presented-below : (cs ds : List ℕ) → offsetPresented cs ≡ done ds → Below 16 ds
+presented-below : (cs ds : List ℕ) → offsetPresented cs ≡ done ds → Below 16 ds
 presented-below cs ds e =
     let p = passed Field15 (eqb (length cs) 12 && (leb 4 (digitEnd cs) && every (within 0x46 0x46) (drop (digitEnd cs) cs))) (map valueOf (take (digitEnd cs) cs)) ds e in
     subst (Below 16) (p .1) (map-below 16 valueOf value-below (take (digitEnd cs) cs))
+
+-- one that was read: its length holds its digits
+pub presented-held : (cs : List ℕ) (x : Pin) → Got x ≡ readingOf (offsetPresented cs) → (os : List ℕ) × (offsetPresented cs ≡ done os) × (x .digits < 16 ^ x .length) × (digitsOf x ≡ os)
+presented-held cs x e =
+    let s = reading-got (offsetPresented cs) x e in
+    let b = presented-below cs (s .0) (s .1) in
+    (s .0, s .1, subst (λ (y : Pin). y .digits < 16 ^ y .length) (sym (s .2)) (word-lt (s .0) b), ap digitsOf (s .2) ∙ row-word (s .0) b)
 
 -- a verdict 00 writes nothing
 pub verdict-nothing :

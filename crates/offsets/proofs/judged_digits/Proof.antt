@@ -2,12 +2,12 @@
 -- Assumes nothing.
 use Prim.Native.Nat.{ℕ}
 use mathlib.Core.List.{List}
-use mathlib.Core.Path.{ap, sym, _∙_, subst}
+use mathlib.Core.Path.{ap, sym, _∙_}
 use borrow.Author.Tests.{le-leb, lt-leb}
 use borrow.Author.Needs.{needs}
-use Rattle.offsets.proofs.Laws.{comparison-of, comparison-bad, digits-alike, pair-fit, pair-back}
+use Rattle.offsets.proofs.Laws.{comparison-fit, comparison-bad, digits-alike}
 use Rattle.offsets.specs.Offsets.{digitsGiven, offsetFor, digitsJudged}
-use Rattle.offsets.specs.Answers.{refusalIn, pairIn, Fit}
+use Rattle.offsets.specs.Answers.{refusalIn}
 use Rattle.pins.specs.declared.Reading.the-variants.{Bad}
 use Rattle.pins.specs.Answers.{readingOf}
 use Rattle.offsets.proofs.judged_digits.Statement.{statement}
@@ -41,19 +41,14 @@ returns-2 c =
 offset-for-requires : tie.Need-offset-for-requires
 offset-for-requires c κs =
     let a = c .before .before .before .before .before .before .before .args in
-    let o = digitsGiven (a .check) (a .pin .now) (a .natural .now) in
-    let p = comparison-of o _ (sym (c .before .comparison .given .1) ∙ c .before .before .before .handed .ensures) in
-    let alike = digits-alike (a .check) (a .pin .now) (a .natural .now) (p .0) (p .1) in
-    subst Fit (sym (p .2)) (pair-fit (p .0) alike)
+    comparison-fit (digitsGiven (a .check) (a .pin .now) (a .natural .now)) (digits-alike (a .check) (a .pin .now) (a .natural .now)) _ (sym (c .before .comparison .given .1) ∙ c .before .before .before .handed .ensures) .2
 
 returns-3 : tie.Need-returns-3
 unfolding digitsJudged
 returns-3 c =
     let a = c .before .before .before .before .before .before .before .before .args in
-    let o = digitsGiven (a .check) (a .pin .now) (a .natural .now) in
-    let p = comparison-of o _ (sym (c .before .before .comparison .given .1) ∙ c .before .before .before .before .handed .ensures) in
-    let alike = digits-alike (a .check) (a .pin .now) (a .natural .now) (p .0) (p .1) in
-    rw (le-leb 12 (a .room) (c .before .before .before .before .before .if1 .left), p .1) (c .offset-for .ensures ∙ ap (λ (q : List ℕ × List ℕ). readingOf (offsetFor (a .variable) (a .check) q)) (ap pairIn (p .2) ∙ pair-back (p .0) alike))
+    let p = comparison-fit (digitsGiven (a .check) (a .pin .now) (a .natural .now)) (digits-alike (a .check) (a .pin .now) (a .natural .now)) _ (sym (c .before .before .comparison .given .1) ∙ c .before .before .before .before .handed .ensures) in
+    rw (le-leb 12 (a .room) (c .before .before .before .before .before .if1 .left), p .1) (c .offset-for .ensures ∙ ap (λ (q : List ℕ × List ℕ). readingOf (offsetFor (a .variable) (a .check) q)) (p .3))
 
 pub judged-digits-spec : {M : Type 1} → statement M
 judged-digits-spec =

@@ -1,14 +1,13 @@
 -- `offsets::judged_offset` meets its contract.
 -- Assumes nothing.
-use Prim.Native.Nat.{ℕ, _<_, _^_}
+use Prim.Native.Nat.{ℕ}
 use mathlib.Core.List.{List}
-use mathlib.Core.Path.{ap, sym, _∙_, subst}
+use mathlib.Core.Path.{ap, sym, _∙_}
 use borrow.Author.Tests.{le-leb, lt-leb}
 use borrow.Author.Needs.{needs}
-use Rattle.offsets.proofs.Laws.{given-of, given-bad, given-refused, given-laid, laid-back, laid-account, comparison-of, comparison-bad, pair-alike, pair-fit, pair-back}
-use Rattle.offsets.specs.declared.Rows.{Rows}
-use Rattle.offsets.specs.Answers.{comparisonOf, refusalIn, rowsIn, pairIn, Fit}
-use Rattle.offsets.specs.Offsets.{given, pinAndNatural, offsetFor, offsetJudged}
+use Rattle.offsets.proofs.Laws.{given-fit, given-none, given-compared, given-incomparable}
+use Rattle.offsets.specs.Answers.{refusalIn}
+use Rattle.offsets.specs.Offsets.{offsetFor, offsetJudged}
 use Rattle.pins.specs.declared.Reading.the-variants.{Bad}
 use Rattle.pins.specs.Answers.{readingOf}
 use Rattle.nibbles.proofs.Laws.{bytes-below}
@@ -34,16 +33,13 @@ returns-2 : tie.Need-returns-2
 unfolding offsetJudged
 returns-2 c =
     let a = c .before .before .before .before .before .before .before .before .args in
-    let o = given (a .format) (a .check) (a .block .now) (a .account .now) (a .table .now) (a .enciphered .now) in
-    rw (le-leb 12 (a .room) (c .before .before .before .if1 .left), given-refused (a .format) (a .check) (a .block .now) (a .account .now) (a .table .now) (a .enciphered .now) _ (given-bad o _ (sym (c .enum-told .given .1) ∙ c .before .before .taken .ensures)))
+    rw (le-leb 12 (a .room) (c .before .before .before .if1 .left), given-none (a .format) (a .check) (a .block .now) (a .account .now) (a .table .now) (a .enciphered .now) _ (sym (c .enum-told .given .1) ∙ c .before .before .taken .ensures))
 
 paired-requires : tie.Need-paired-requires
 paired-requires c κs =
     let a = c .before .before .before .before .before .before .before .before .before .args in
-    let o = given (a .format) (a .check) (a .block .now) (a .account .now) (a .table .now) (a .enciphered .now) in
-    let g = given-of o _ (sym (c .before .fields .given .1) ∙ c .before .before .before .taken .ensures) in
-    let laid = given-laid (a .format) (a .check) (a .block .now) (a .account .now) (a .table .now) (a .enciphered .now) (bytes-below (a .block .now) (c .before .before .before .before .before .before .before .before .shared-slice-known .given)) (bytes-below (a .enciphered .now) (c .before .before .before .before .before .shared-slice-known4 .given)) (g .0) (g .1) in
-    (laid .whole, subst (λ (r : Rows). r .account < 16 ^ 12) (sym (g .2)) (laid-account (a .format) (a .check) (a .block .now) (a .account .now) (a .table .now) (a .enciphered .now) (g .0) laid))
+    let g = given-fit (a .format) (a .check) (a .block .now) (a .account .now) (a .table .now) (a .enciphered .now) (bytes-below (a .block .now) (c .before .before .before .before .before .before .before .before .shared-slice-known .given)) (bytes-below (a .enciphered .now) (c .before .before .before .before .before .shared-slice-known4 .given)) _ (sym (c .before .fields .given .1) ∙ c .before .before .before .taken .ensures) in
+    (g .2 .whole, g .3)
 
 enum-known-comparison : tie.Need-enum-known-comparison
 enum-known-comparison c = search needs
@@ -58,37 +54,20 @@ returns-3 : tie.Need-returns-3
 unfolding offsetJudged
 returns-3 c =
     let a = c .before .before .before .before .before .before .before .before .before .before .before .before .before .args in
-    let o = given (a .format) (a .check) (a .block .now) (a .account .now) (a .table .now) (a .enciphered .now) in
-    let g = given-of o _ (sym (c .before .before .before .before .before .fields .given .1) ∙ c .before .before .before .before .before .before .before .taken .ensures) in
-    let laid = given-laid (a .format) (a .check) (a .block .now) (a .account .now) (a .table .now) (a .enciphered .now) (bytes-below (a .block .now) (c .before .before .before .before .before .before .before .before .before .before .before .before .shared-slice-known .given)) (bytes-below (a .enciphered .now) (c .before .before .before .before .before .before .before .before .before .shared-slice-known4 .given)) (g .0) (g .1) in
-    let both = pinAndNatural (a .format) (a .table .now) (g .0) in
-    let said = c .before .before .before .paired .ensures ∙ ap (λ (r : List ℕ × List ℕ × List ℕ). comparisonOf (pinAndNatural (a .format) (a .table .now) r)) (ap rowsIn (g .2) ∙ laid-back (a .format) (a .check) (a .block .now) (a .account .now) (a .table .now) (a .enciphered .now) (g .0) laid) in
-    rw (le-leb 12 (a .room) (c .before .before .before .before .before .before .before .before .if1 .left), g .1, comparison-bad both _ (sym (c .before .enum-told2 .given .1) ∙ said)) (ap Bad (c .refusal .ensures ∙ ap refusalIn (c .before .enum-told2 .given .1)))
+    let q = given-incomparable (a .format) (a .check) (a .block .now) (a .account .now) (a .table .now) (a .enciphered .now) (bytes-below (a .block .now) (c .before .before .before .before .before .before .before .before .before .before .before .before .shared-slice-known .given)) (bytes-below (a .enciphered .now) (c .before .before .before .before .before .before .before .before .before .shared-slice-known4 .given)) _ (sym (c .before .before .before .before .before .fields .given .1) ∙ c .before .before .before .before .before .before .before .taken .ensures) _ (sym (c .before .enum-told2 .given .1) ∙ c .before .before .before .paired .ensures) in
+    rw (le-leb 12 (a .room) (c .before .before .before .before .before .before .before .before .if1 .left), q .1, q .2) (ap Bad (c .refusal .ensures ∙ ap refusalIn (c .before .enum-told2 .given .1)))
 
 offset-for-requires : tie.Need-offset-for-requires
 offset-for-requires c κs =
     let a = c .before .before .before .before .before .before .before .before .before .before .before .before .before .args in
-    let o = given (a .format) (a .check) (a .block .now) (a .account .now) (a .table .now) (a .enciphered .now) in
-    let g = given-of o _ (sym (c .before .before .before .before .before .fields .given .1) ∙ c .before .before .before .before .before .before .before .taken .ensures) in
-    let laid = given-laid (a .format) (a .check) (a .block .now) (a .account .now) (a .table .now) (a .enciphered .now) (bytes-below (a .block .now) (c .before .before .before .before .before .before .before .before .before .before .before .before .shared-slice-known .given)) (bytes-below (a .enciphered .now) (c .before .before .before .before .before .before .before .before .before .shared-slice-known4 .given)) (g .0) (g .1) in
-    let both = pinAndNatural (a .format) (a .table .now) (g .0) in
-    let said = c .before .before .before .paired .ensures ∙ ap (λ (r : List ℕ × List ℕ × List ℕ). comparisonOf (pinAndNatural (a .format) (a .table .now) r)) (ap rowsIn (g .2) ∙ laid-back (a .format) (a .check) (a .block .now) (a .account .now) (a .table .now) (a .enciphered .now) (g .0) laid) in
-    let p = comparison-of both _ (sym (c .before .comparison .given .1) ∙ said) in
-    let alike = pair-alike (a .format) (a .check) (a .block .now) (a .account .now) (a .table .now) (a .enciphered .now) (g .0) laid (p .0) (p .1) in
-    subst Fit (sym (p .2)) (pair-fit (p .0) alike)
+    given-compared (a .format) (a .check) (a .block .now) (a .account .now) (a .table .now) (a .enciphered .now) (bytes-below (a .block .now) (c .before .before .before .before .before .before .before .before .before .before .before .before .shared-slice-known .given)) (bytes-below (a .enciphered .now) (c .before .before .before .before .before .before .before .before .before .shared-slice-known4 .given)) _ (sym (c .before .before .before .before .before .fields .given .1) ∙ c .before .before .before .before .before .before .before .taken .ensures) _ (sym (c .before .comparison .given .1) ∙ c .before .before .before .paired .ensures) .4
 
 returns-4 : tie.Need-returns-4
 unfolding offsetJudged
 returns-4 c =
     let a = c .before .before .before .before .before .before .before .before .before .before .before .before .before .before .args in
-    let o = given (a .format) (a .check) (a .block .now) (a .account .now) (a .table .now) (a .enciphered .now) in
-    let g = given-of o _ (sym (c .before .before .before .before .before .before .fields .given .1) ∙ c .before .before .before .before .before .before .before .before .taken .ensures) in
-    let laid = given-laid (a .format) (a .check) (a .block .now) (a .account .now) (a .table .now) (a .enciphered .now) (bytes-below (a .block .now) (c .before .before .before .before .before .before .before .before .before .before .before .before .before .shared-slice-known .given)) (bytes-below (a .enciphered .now) (c .before .before .before .before .before .before .before .before .before .before .shared-slice-known4 .given)) (g .0) (g .1) in
-    let both = pinAndNatural (a .format) (a .table .now) (g .0) in
-    let said = c .before .before .before .before .paired .ensures ∙ ap (λ (r : List ℕ × List ℕ × List ℕ). comparisonOf (pinAndNatural (a .format) (a .table .now) r)) (ap rowsIn (g .2) ∙ laid-back (a .format) (a .check) (a .block .now) (a .account .now) (a .table .now) (a .enciphered .now) (g .0) laid) in
-    let p = comparison-of both _ (sym (c .before .before .comparison .given .1) ∙ said) in
-    let alike = pair-alike (a .format) (a .check) (a .block .now) (a .account .now) (a .table .now) (a .enciphered .now) (g .0) laid (p .0) (p .1) in
-    rw (le-leb 12 (a .room) (c .before .before .before .before .before .before .before .before .before .if1 .left), g .1, p .1) (c .offset-for .ensures ∙ ap (λ (q : List ℕ × List ℕ). readingOf (offsetFor (a .variable) (a .check) q)) (ap pairIn (p .2) ∙ pair-back (p .0) alike))
+    let p = given-compared (a .format) (a .check) (a .block .now) (a .account .now) (a .table .now) (a .enciphered .now) (bytes-below (a .block .now) (c .before .before .before .before .before .before .before .before .before .before .before .before .before .shared-slice-known .given)) (bytes-below (a .enciphered .now) (c .before .before .before .before .before .before .before .before .before .before .shared-slice-known4 .given)) _ (sym (c .before .before .before .before .before .before .fields .given .1) ∙ c .before .before .before .before .before .before .before .before .taken .ensures) _ (sym (c .before .before .comparison .given .1) ∙ c .before .before .before .before .paired .ensures) in
+    rw (le-leb 12 (a .room) (c .before .before .before .before .before .before .before .before .before .if1 .left), p .1, p .3) (c .offset-for .ensures ∙ ap (λ (q : List ℕ × List ℕ). readingOf (offsetFor (a .variable) (a .check) q)) (p .5))
 
 pub judged-offset-spec : {M : Type 1} → statement M
 judged-offset-spec =

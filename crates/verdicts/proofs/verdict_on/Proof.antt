@@ -1,15 +1,16 @@
 -- `verdicts::verdict_on` meets its contract.
 -- Assumes nothing.
+use mathlib.Core.List.{[]}
 use mathlib.Core.Path.{ap, sym, _∙_}
 use borrow.Author.Needs.{needs}
-use Rattle.verdicts.proofs.Laws.{verdict-long, verdict-other-length, verdict-other, verdict-same, none-word}
+use Rattle.verdicts.proofs.Laws.{verdict-long, verdict-other-length, verdict-other, verdict-same}
 use Rattle.offsets.specs.Answers.{pairIn}
 use Rattle.offsets.specs.Offsets.{offsetFor}
 use Rattle.blocks.specs.Answers.{digitsOf}
 use Rattle.pins.proofs.Laws.{reading-got, reading-bad}
 use Rattle.pins.specs.declared.Row.the-variants.{Held}
 use Rattle.pins.specs.declared.Pin.{Pin}
-use Rattle.nibbles.proofs.Laws.{row-length}
+use Rattle.nibbles.proofs.Laws.{word-none}
 use Rattle.verdicts.proofs.verdict_on.Statement.{statement}
 use Rattle.verdicts.proofs.verdict_on.Tie as tie
 
@@ -37,7 +38,6 @@ returns-2 c =
     let h = reading-got o _ (sym (c .before .before .before .before .made .given .1) ∙ c .before .before .before .before .before .before .offset-for .ensures) in
     let n = ap (λ (x : Pin). x .length) (h .2) in
     let d = ap (λ (x : Pin). x .digits) (h .2) in
-    let s = row-length ((a .presented) .length) ((a .presented) .digits) in
     rw (verdict-other-length (a .variable) (a .check) (a .p) (c .before .before .before .before .before .before .before .pre .0) (a .presented) (c .before .before .before .before .before .before .before .pre .1) (h .0) (h .1) (λ e. c .if1 .taken (e ∙ sym n)))
 
 returns-3 : tie.Need-returns-3
@@ -48,7 +48,6 @@ returns-3 c =
     let h = reading-got o _ (sym (c .before .before .before .before .before .before .before .made .given .1) ∙ c .before .before .before .before .before .before .before .before .before .offset-for .ensures) in
     let n = ap (λ (x : Pin). x .length) (h .2) in
     let d = ap (λ (x : Pin). x .digits) (h .2) in
-    let s = row-length ((a .presented) .length) ((a .presented) .digits) in
     rw (verdict-other (a .variable) (a .check) (a .p) (c .before .before .before .before .before .before .before .before .before .before .pre .0) (a .presented) (c .before .before .before .before .before .before .before .before .before .before .pre .1) (h .0) (h .1) (c .before .before .before .if1 .left ∙ n) (λ e. c .if2 .taken (e ∙ sym d)))
 
 returns-4 : tie.Need-returns-4
@@ -59,8 +58,7 @@ returns-4 c =
     let h = reading-got o _ (sym (c .before .before .before .before .before .before .before .made .given .1) ∙ c .before .before .before .before .before .before .before .before .before .offset-for .ensures) in
     let n = ap (λ (x : Pin). x .length) (h .2) in
     let d = ap (λ (x : Pin). x .digits) (h .2) in
-    let s = row-length ((a .presented) .length) ((a .presented) .digits) in
-    rw (verdict-same (a .variable) (a .check) (a .p) (c .before .before .before .before .before .before .before .before .before .before .pre .0) (a .presented) (c .before .before .before .before .before .before .before .before .before .before .pre .1) (h .0) (h .1) (c .before .before .before .if1 .left ∙ n) (c .if2 .left ∙ d)) (ap Held none-word)
+    rw (verdict-same (a .variable) (a .check) (a .p) (c .before .before .before .before .before .before .before .before .before .before .pre .0) (a .presented) (c .before .before .before .before .before .before .before .before .before .before .pre .1) (h .0) (h .1) (c .before .before .before .if1 .left ∙ n) (c .if2 .left ∙ d)) (ap Held (word-none []))
 
 pub verdict-on-spec : {M : Type 1} → statement M
 verdict-on-spec =
