@@ -14,14 +14,15 @@ use Rattle.nibbles.proofs.Laws.{and-left, and-right, inside-low, inside-high, l
 use Rattle.alphabet.specs.Alphabet.{admits, allOf, valueOf, characters}
 use Rattle.alphabet.specs.declared.Class.the-variants.{Digit}
 use Rattle.numbers.specs.Numbers.{Outcome, done, refused, andThen, unless}
-use Rattle.numbers.specs.declared.Refusal.the-variants.{Unverified01, Field15, Check81, Room901}
+use Rattle.numbers.specs.declared.Refusal.the-variants.{Unverified01, Field15, Room901}
 use Rattle.numbers.proofs.Laws.{passed, then-done}
 use Rattle.formats.specs.Formats.{codeOf, formatOf}
 use Rattle.pins.specs.Pins.{accountOf, accountField, sized}
 use Rattle.blocks.specs.Blocks.{readRow}
 use Rattle.ibm3624.specs.Ibm3624.{covers, covered, offsetOf, offsetText, moduloTen, digitEnd, offsetPresented}
-use Rattle.offsets.specs.Offsets.{given, pinAndNatural, digitsGiven, offsetJudged, digitsJudged, differencesOf, spelt}
+use Rattle.offsets.specs.Offsets.{digitsGiven, offsetJudged, digitsJudged, differencesOf, spelt}
 use Rattle.verdicts.specs.Verdicts.{offsetVerdict}
+use Rattle.verdicts.proofs.Laws.{verdict-done}
 use Rattle.pvv.specs.Pvv.{pvvOf, keyIndex, presented, pvvMade, pvvVerdict}
 use Rattle.claims_offsets.specs.Claims.{VerdictIsOffset, PvvVerdictIsPvv, OffsetIsReduced}
 use Rattle.claims_offsets.proofs.Texts.{offset-verifies}
@@ -83,15 +84,12 @@ presented-text cs os e =
 made-by-verdict :
     (variable : Bool) (code check : ℕ) (block account table enciphered offset : List ℕ) (room : ℕ) → 12 ≤ room
     → offsetVerdict variable code check block account table enciphered offset ≡ done [] → spelt (offsetJudged variable code check block account table enciphered room) ≡ done offset
-unfolding offsetVerdict offsetJudged
+unfolding offsetJudged
 made-by-verdict variable code check block account table enciphered offset room r e =
-    let g = then-done (given code check block account table enciphered) _ [] e in
-    let s = then-done (offsetPresented offset) _ [] (g .2) in
-    let p = then-done (pinAndNatural code table (g .0)) _ [] (s .2) in
-    let m = then-done (covers variable check (length (p .0 .0))) _ [] (p .2) in
-    let l = then-done (unless Check81 (eqb (length (s .0)) (m .0)) (m .0)) _ [] (m .2) in
-    let same-digits = same-true (s .0) (offsetOf (m .0) (p .0 .0) (p .0 .1)) (passed Unverified01 (same (s .0) (offsetOf (m .0) (p .0 .0) (p .0 .1))) [] [] (l .2) .0) in
-    rw (le-leb 12 room r, g .1, p .1, m .1) (ap done (ap offsetText (sym same-digits) ∙ presented-text offset (s .0) (s .1)))
+    let v = verdict-done variable code check block account table enciphered offset [] e in
+    let made = offsetOf (v .3) (v .2 .0) (v .2 .1) in
+    let same-digits = same-true (v .1) made (passed Unverified01 (same (v .1) made) [] [] (v .8) .0) in
+    rw (le-leb 12 room r, v .4, v .6, v .7) (ap done (ap offsetText (sym same-digits) ∙ presented-text offset (v .1) (v .5)))
 
 pub verdict-is-offset : VerdictIsOffset
 verdict-is-offset variable code check block account table enciphered offset room b c r = (

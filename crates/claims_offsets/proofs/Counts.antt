@@ -10,18 +10,17 @@ use lib.IntN.{ℤ}
 use lib.Dec.{leb}
 use borrow.Author.Tests.{leb-true}
 use Rattle.nibbles.specs.Nibbles.{within}
-use Rattle.nibbles.proofs.Laws.{inside-low, inside-high, every-below, nibs-length}
-use Rattle.alphabet.specs.Alphabet.{characters}
+use Rattle.nibbles.proofs.Laws.{inside-low, every-below, nibs-length}
 use Rattle.numbers.specs.Numbers.{Outcome, done, unless}
-use Rattle.numbers.specs.declared.Refusal.the-variants.{Field15, Length24, Check81, Room901}
+use Rattle.numbers.specs.declared.Refusal.the-variants.{Field15, Check81, Room901}
 use Rattle.numbers.proofs.Laws.{then-done, passed, value-of}
 use Rattle.formats.specs.Formats.{codeOf, formatOf}
-use Rattle.pins.specs.Pins.{pinLength, accountOf, accountField, sized}
+use Rattle.pins.specs.Pins.{accountOf, accountField, sized}
 use Rattle.pins.proofs.Laws.{sized-done, account-done}
 use Rattle.blocks.specs.Blocks.{readRow}
 use Rattle.blocks.proofs.Laws.{Blocky, read-pinned, sixteen-bytes, bytes-sixteen}
 use Rattle.ibm3624.specs.Ibm3624.{tableSized, tableOf, naturalPin, checkLength, covers, lastOf, differences, covered, moduloTen, offsetOf, offsetText}
-use Rattle.ibm3624.proofs.Laws.{differences-length, natural-long, text-length}
+use Rattle.ibm3624.proofs.Laws.{covered-many, natural-done, natural-long, text-length}
 use Rattle.offsets.specs.Offsets.{given, pinWithNatural, pinAndNatural, digitsGiven, offsetFor, offsetJudged, digitsJudged, offsetMade, offsetOfDigits, differencesOf}
 use Rattle.offsets.proofs.Laws.{digits-alike, covers-within}
 use Rattle.pvv.specs.Pvv.{pvvOf, keyIndex, pvvInput, pvvMade}
@@ -41,19 +40,12 @@ eight o room b w e = let x = b w e .1 in ap length (x .2) ∙ sixteen-bytes (x .
 
 -- a natural PIN
 pub natural-counts : (n : ℕ) (table enciphered : List ℕ) (room : ℕ) (w : List ℕ) → naturalPin n table enciphered room ≡ done w → PinLength n (length w)
-unfolding naturalPin
 natural-counts n table enciphered room w e =
-    let r = then-done (unless Room901 (leb 12 room) room) _ w e in
-    let t = then-done (tableSized table) _ w (r .2) in
-    let s = then-done (sized 8 enciphered) _ w (t .2) in
-    let u = then-done (tableOf table) _ w (s .2) in
-    let l = then-done (pinLength n) _ w (u .2) in
-    let h = passed Length24 (within 4 12 n) n (l .0) (l .1) in
-    let low = inside-low 4 12 n (h .0) in
-    let high = inside-high 4 12 n (h .0) in
-    let same-length = h .1 in
-    let sixteen = sized-sixteen enciphered (s .0) (s .1) in
-    let long : length w ≡ n = ap length (sym (value-of (l .2))) ∙ natural-long (l .0) (u .0) (s .0) (omega arith) ∙ sym same-length in
+    let t = natural-done n table enciphered room w e in
+    let low = t .5 in
+    let high = t .6 in
+    let sixteen = sized-sixteen enciphered (t .1) (t .3) in
+    let long : length w ≡ n = ap length (sym (t .8)) ∙ natural-long n (t .0) (t .1) (omega arith) in
     (long, (omega arith, omega arith))
 
 -- an offset is no longer than its PIN
@@ -128,10 +120,17 @@ pub covers-four : (variable : Bool) (check n m : ℕ) → 4 ≤ check → 4 ≤ 
 covers-four true check n m c h e = subst (λ (k : ℕ). 4 ≤ k) (value-of e) h
 covers-four false check n m c h e = subst (λ (k : ℕ). 4 ≤ k) (passed Check81 (leb check n) check m e .1) c
 
--- a check length that was judged
+-- a check length that was judged, by itself, with digits and with a block
+check-least : (check k : ℕ) → checkLength check ≡ done k → 4 ≤ check
+check-least check k e = inside-low 4 12 check (passed Field15 (within 4 12 check) check k e .0)
+
 pub digits-check : (check : ℕ) (pin natural : List ℕ) (p : List ℕ × List ℕ) → digitsGiven check pin natural ≡ done p → 4 ≤ check
 unfolding digitsGiven
-digits-check check pin natural p e = let c = then-done (checkLength check) _ p e in inside-low 4 12 check (passed Field15 (within 4 12 check) check (c .0) (c .1) .0)
+digits-check check pin natural p e = let c = then-done (checkLength check) _ p e in check-least check (c .0) (c .1)
+
+pub given-check : (code check : ℕ) (block account table enciphered : List ℕ) (g : List ℕ × List ℕ × List ℕ) → given code check block account table enciphered ≡ done g → 4 ≤ check
+unfolding given
+given-check code check block account table enciphered g e = let c = then-done (checkLength check) _ g e in check-least check (c .0) (c .1)
 
 pub differences-counts : (variable : Bool) (check : ℕ) (pin natural : List ℕ) (room : ℕ) (zs : List ℤ) → differencesOf variable check pin natural room ≡ done zs → FourToTwelve (length zs)
 unfolding differencesOf
@@ -147,9 +146,7 @@ differences-counts variable check pin natural room zs e =
     let least = covers-four variable check (length ps) k (digits-check check pin natural (p .0) (p .1)) (a .pin .long) (m .1) in
     let short = a .pin .short in
     let alike = a .long in
-    let b = length-drop (length ps - k) ps in
-    let c = length-drop (length qs - k) qs in
-    let d = differences-length (lastOf k ps) (lastOf k qs) (omega arith) in
+    let d = covered-many k ps qs most alike in
     let whole : length (covered k ps qs) ≡ length zs = ap length (value-of (m .2)) in
     (omega arith, omega arith)
 

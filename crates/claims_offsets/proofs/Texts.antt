@@ -2,28 +2,29 @@
 -- Assumes nothing.
 use Prim.Native.Nat.{ℕ, zero, suc, _+_, _-_, _≤_, _<_}
 use native.Mathlib.Omega.{arith}
-use mathlib.Core.Path.{_≡_, refl, sym, ap, ap₂, _∙_, subst}
+use mathlib.Core.Path.{_≡_, refl, ap, ap₂, _∙_}
 use mathlib.Core.List.{List, [], _∷_, map}
 use mathlib.Core.Bool.{Bool, true, false}
 use lib.ListN.{length, getD, replicate, length-map}
 use lib.Seq.{drop-at}
 use lib.Dec.{leb}
 use borrow.Author.Tests.{lt-leb, le-leb, eq-eqb}
-use Rattle.nibbles.specs.Nibbles.{word, within, every}
-use Rattle.nibbles.proofs.Laws.{Below, inside, inside-low, inside-high, every-below, below-every, same-refl}
+use Rattle.nibbles.specs.Nibbles.{within, every}
+use Rattle.nibbles.proofs.Laws.{Below, inside, inside-high, every-below, below-every, same-refl}
 use Rattle.alphabet.specs.Alphabet.{admits, valueOf, characters}
 use Rattle.alphabet.specs.declared.Class.the-variants.{Digit}
 use Rattle.numbers.specs.Numbers.{done, unless}
-use Rattle.numbers.specs.declared.Refusal.the-variants.{Field15, Check81, Room901}
-use Rattle.numbers.proofs.Laws.{passed, then-done, value-of}
-use Rattle.ibm3624.specs.Ibm3624.{checkLength, covers, covered, offsetOf, offsetText, digitEnd, offsetPresented}
-use Rattle.ibm3624.proofs.Laws.{reduced-below, offset-length, text-length, text-head}
+use Rattle.numbers.specs.declared.Refusal.the-variants.{Room901}
+use Rattle.numbers.proofs.Laws.{then-done, value-of}
+use Rattle.ibm3624.specs.Ibm3624.{covers, covered, offsetOf, offsetText, digitEnd, offsetPresented}
+use Rattle.ibm3624.proofs.Laws.{reduced-below, offset-many, text-length, text-head}
 use Rattle.offsets.specs.Offsets.{given, pinAndNatural, offsetFor, offsetJudged}
-use Rattle.offsets.proofs.Laws.{Alike, valueIn, pair-back, pair-fit, pair-alike, given-laid, covers-within, matched}
+use Rattle.offsets.proofs.Laws.{pair-alike, given-laid, covers-within}
 use Rattle.verdicts.specs.Verdicts.{offsetVerdict}
 use Rattle.claims_blocks.proofs.Lists.{run-is, every-map}
 use Rattle.claims_blocks.specs.Claims.{IsBytes}
 use Rattle.claims_offsets.specs.Claims.{OffsetVerifies}
+use Rattle.claims_offsets.proofs.Counts.{covers-four, given-check}
 use Rattle.claims_offsets.proofs.Verdicts.{verdict-compares}
 
 -- ---- the text
@@ -61,23 +62,6 @@ text-presented ds long short b =
 
 -- ---- the offset
 
--- at least four digits are covered
-covers-four : (variable : Bool) (check n m : ℕ) → 4 ≤ check → 4 ≤ n → covers variable check n ≡ done m → 4 ≤ m
-covers-four true check n m c l e = subst (λ (k : ℕ). 4 ≤ k) (value-of e) l
-covers-four false check n m c l e = subst (λ (k : ℕ). 4 ≤ k) (passed Check81 (leb check n) check m e .1) c
-
--- as many digits as are covered
-covered-many : (variable : Bool) (check m : ℕ) (p : List ℕ × List ℕ) → Alike p → covers variable check (length (p .0)) ≡ done m → length (offsetOf m (p .0) (p .1)) ≡ m
-covered-many variable check m p alike e =
-    let back = ap (λ (q : List ℕ × List ℕ). length (offsetOf m (q .0) (q .1))) (pair-back p alike) in
-    sym back ∙ offset-length m (length (p .0)) (word (p .0)) (word (p .1)) (matched (valueIn p) (pair-fit p alike) m (covers-within variable check (length (p .0)) m e))
-
-given-check : (code check : ℕ) (block account table enciphered : List ℕ) (g : List ℕ × List ℕ × List ℕ) → given code check block account table enciphered ≡ done g → 4 ≤ check
-unfolding given
-given-check code check block account table enciphered g e =
-    let k = then-done (checkLength check) _ g e in
-    inside-low 4 12 check (passed Field15 (within 4 12 check) check (k .0) (k .1) .0)
-
 -- an offset that was made is that over the covered digits
 for-done : (variable : Bool) (check : ℕ) (p : List ℕ × List ℕ) (ds : List ℕ) → offsetFor variable check p ≡ done ds
     → (m : ℕ) × (covers variable check (length (p .0)) ≡ done m) × (offsetOf m (p .0) (p .1) ≡ ds)
@@ -97,9 +81,9 @@ module _ (variable : Bool) (code check m : ℕ) (block account table enciphered 
   verifies b c x y z =
       let laid = given-laid code check block account table enciphered (every-below 255 block b) (every-below 255 enciphered c) g x in
       let alike = pair-alike code check block account table enciphered g laid p y in
-      let many = covered-many variable check m p alike z in
-      let four = covers-four variable check (length (p .0)) m (given-check code check block account table enciphered g x) (alike .pin .long) z in
       let few = covers-within variable check (length (p .0)) m z in
+      let many = offset-many m (p .0) (p .1) few (alike .long) in
+      let four = covers-four variable check (length (p .0)) m (given-check code check block account table enciphered g x) (alike .pin .long) z in
       let shown = text-presented digits (omega arith) (omega (arith, alike .pin .short)) (reduced-below (covered m (p .0) (p .1))) in
       verdict-compares variable code check m block account table enciphered (offsetText digits) digits g p x shown y z many ∙ rw (same-refl digits)
 

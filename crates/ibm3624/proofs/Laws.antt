@@ -3,7 +3,7 @@
 use Prim.Native.Nat.{ℕ, zero, suc, _+_, _-_, _≤_, _<_}
 use native.Mathlib.Omega.{arith}
 use native.Mathlib.Nat.{not-suc-le-zero, le-of-suc-le-suc, mod-lt}
-use mathlib.Core.Path.{_≡_, refl, sym, ap, ap₂, _∙_, subst}
+use mathlib.Core.Path.{_≡_, refl, sym, ap, ap₂, _∙_}
 use mathlib.Core.List.{List, [], _∷_, _++_, map}
 use lib.ListN.{length, getD, take, drop, replicate, length-map, length-append, length-drop, length-replicate, getD-replicate}
 use lib.Seq.{length-take-le, getD-take, getD-drop, take-at, drop-at, getD-append-add, drop-append-add, drop-drop}
@@ -11,7 +11,7 @@ use lib.Dec.{lit<, leb, eqb}
 use lib.IntN.{ℤ, pos, negsuc}
 use borrow.Author.Tests.{eqb-true, leb-true}
 use Rattle.nibbles.specs.Nibbles.{row, within, word}
-use Rattle.nibbles.proofs.Laws.{Below, row-length, row-at-lt, map-at, map-below, row-at-less, below-at, every-below, row-word, inside-high}
+use Rattle.nibbles.proofs.Laws.{Below, row-length, row-at-lt, map-at, map-below, row-at-less, below-at, every-below, row-word, inside-low, inside-high}
 use Rattle.alphabet.specs.Alphabet.{characters, allOf, valueOf}
 use Rattle.ibm3624.specs.Ibm3624.{decimal, naturalOf, lastOf, difference, differences, moduloTen, covered, offsetOf, offsetText, tableSized, tableOf, naturalPin}
 use Rattle.alphabet.specs.declared.Class.the-variants.{Digit}
@@ -70,6 +70,17 @@ differences-at (p ∷ ps) [] i d h k = absurd (not-suc-le-zero k)
 differences-at (p ∷ ps) (q ∷ qs) zero d h k = refl
 differences-at (p ∷ ps) (q ∷ qs) (suc i) d h k = differences-at ps qs i d (le-of-suc-le-suc h) (le-of-suc-le-suc k)
 
+-- as many as are covered, of a PIN and a natural PIN of one length
+pub covered-many : (m : ℕ) (ps qs : List ℕ) → m ≤ length ps → length qs ≡ length ps → length (covered m ps qs) ≡ m
+covered-many m ps qs h l =
+    let a = length-drop (length ps - m) ps in
+    let b = length-drop (length qs - m) qs in
+    let c = differences-length (lastOf m ps) (lastOf m qs) (omega arith) in
+    omega arith
+
+pub offset-many : (m : ℕ) (ps qs : List ℕ) → m ≤ length ps → length qs ≡ length ps → length (offsetOf m ps qs) ≡ m
+offset-many m ps qs h l = length-map (covered m ps qs) moduloTen ∙ covered-many m ps qs h l
+
 -- a difference modulo ten is a digit
 modulo-ten : (z : ℤ) → moduloTen z < 10
 modulo-ten (pos n) = mod-lt n (lit< tt)
@@ -98,9 +109,7 @@ module _ (m n pin natural : ℕ) (h : Matched m n pin natural) where
   naturalDigit i = getD (row n natural) (n - m + i) 0
 
   pub covered-length : length (covered m (row n pin) (row n natural)) ≡ m
-  covered-length =
-      differences-length (lastOf m (row n pin)) (lastOf m (row n natural)) (last-length m n pin (h .within) ∙ sym (last-length m n natural (h .within)))
-      ∙ last-length m n pin (h .within)
+  covered-length = covered-many m (row n pin) (row n natural) (rw (row-length n pin) (h .within)) (row-length n natural ∙ sym (row-length n pin))
 
   pub covered-at : (i : ℕ) → i < m → getD (covered m (row n pin) (row n natural)) i (pos 0) ≡ difference (pinDigit i) (naturalDigit i)
   covered-at i k =
@@ -187,23 +196,38 @@ table-row cs ts w l e h =
     let n : length ts ≡ 16 = ap length (sym s) ∙ length-map cs valueOf ∙ l in
     ap (row 16) h ∙ ap (λ (k : ℕ). row k (word ts)) (sym n) ∙ row-word ts (rw (← s) (map-below 16 valueOf value-below cs))
 
-pub natural-digital : (n : ℕ) (table enciphered : List ℕ) (room : ℕ) → Below 256 enciphered → Digital (naturalPin n table enciphered room) room
+-- what the call that makes a natural PIN has judged
+pub natural-done : (n : ℕ) (table enciphered : List ℕ) (room : ℕ) (ds : List ℕ) → naturalPin n table enciphered room ≡ done ds
+    → (ts es : List ℕ) × (tableOf table ≡ done ts) × (sized 8 enciphered ≡ done es) × (length table ≡ 16) × (4 ≤ n) × (n ≤ 12) × (12 ≤ room) × (naturalOf n ts es ≡ ds)
 unfolding naturalPin
-natural-digital n table enciphered room b ds e =
+natural-done n table enciphered room ds e =
     let r = then-done (unless Room901 (leb 12 room) room) _ ds e in
     let t = then-done (tableSized table) _ ds (r .2) in
     let s = then-done (sized 8 enciphered) _ ds (t .2) in
     let ts = then-done (tableOf table) _ ds (s .2) in
     let k = then-done (pinLength n) _ ds (ts .2) in
-    let p = passed Length24 (within 4 12 n) n (k .0) (k .1) in
-    let small : k .0 ≤ 12 = subst (λ (x : ℕ). x ≤ 12) (p .1) (inside-high 4 12 n (p .0)) in
-    let sixteen : length table ≡ 16 = eqb-true _ _ (passed Field15 (eqb (length table) 16) table (t .0) (t .1) .0) in
-    let tr = table-row table (ts .0) (word (ts .0)) sixteen (ts .1) refl in
-    let er = block-row enciphered (s .0) (word (s .0)) (s .1) b refl in
-    let whole : naturalOf (k .0) (row 16 (word (ts .0))) (row 16 (word (s .0))) ≡ ds = ap₂ (naturalOf (k .0)) tr er ∙ value-of (k .2) in
-    let long = ap length (sym whole) ∙ natural-length (k .0) (word (ts .0)) (word (s .0)) (omega arith) in
-    let room-for = leb-true 12 room (passed Room901 (leb 12 room) room (r .0) (r .1) .0) in
-    (omega arith, omega arith, rw (← whole) (natural-below (k .0) (word (ts .0)) (word (s .0)) (omega arith)))
+    let p = passed Length24 (within 4 12 n) n (k .0) (k .1) in (
+      ts .0,
+      s .0,
+      ts .1,
+      s .1,
+      eqb-true _ _ (passed Field15 (eqb (length table) 16) table (t .0) (t .1) .0),
+      inside-low 4 12 n (p .0),
+      inside-high 4 12 n (p .0),
+      leb-true 12 room (passed Room901 (leb 12 room) room (r .0) (r .1) .0),
+      ap (λ (j : ℕ). naturalOf j (ts .0) (s .0)) (p .1) ∙ value-of (k .2),
+    )
+
+pub natural-digital : (n : ℕ) (table enciphered : List ℕ) (room : ℕ) → Below 256 enciphered → Digital (naturalPin n table enciphered room) room
+natural-digital n table enciphered room b ds e =
+    let t = natural-done n table enciphered room ds e in
+    let tr = table-row table (t .0) (word (t .0)) (t .4) (t .2) refl in
+    let er = block-row enciphered (t .1) (word (t .1)) (t .3) b refl in
+    let whole : naturalOf n (row 16 (word (t .0))) (row 16 (word (t .1))) ≡ ds = ap₂ (naturalOf n) tr er ∙ t .8 in
+    let small = t .6 in
+    let room-for = t .7 in
+    let long = ap length (sym whole) ∙ natural-length n (word (t .0)) (word (t .1)) (omega arith) in
+    (omega arith, omega arith, rw (← whole) (natural-below n (word (t .0)) (word (t .1)) (omega arith)))
 
 -- ---- the natural PIN of any rows
 

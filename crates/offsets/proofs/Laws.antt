@@ -24,7 +24,7 @@ use Rattle.blocks.specs.Blocks.{readRow}
 use Rattle.blocks.proofs.Laws.{Sixteen, bytes-sixteen, sixteen-word, read-pinned}
 use Rattle.pins.specs.Answers.{readingOf}
 use Rattle.ibm3624.specs.Ibm3624.{tableOf, covered, offsetOf, offsetText, checkLength, covers, naturalHanded, tableSized}
-use Rattle.ibm3624.proofs.Laws.{natural-long, natural-digits, offset-length, reduced-below}
+use Rattle.ibm3624.proofs.Laws.{natural-long, natural-digits, offset-many, reduced-below}
 use Rattle.ibm3624.specs.Answers.{Matched}
 use Rattle.offsets.specs.Offsets.{given, pinWithNatural, pinAndNatural, digitsGiven, offsetFor, offsetJudged, digitsJudged, spelt, differencesOf}
 use Rattle.offsets.specs.Answers.{givenOf, comparisonOf, rowsIn, pairIn, Fit, textOf, Roomy}
@@ -265,11 +265,10 @@ roomy (refused q) room t = tt
 offset-texty-for : (variable : Bool) (check : ℕ) (p : List ℕ × List ℕ) → Alike p → (room : ℕ) → 12 ≤ room → Texty (offsetFor variable check p) room
 offset-texty-for variable check p alike room r ds e =
     let t = then-done (covers variable check (length (p .0))) _ ds e in
-    let m = matched (valueIn p) (pair-fit p alike) (t .0) (covers-within variable check (length (p .0)) (t .0) (t .1)) in
+    let w = covers-within variable check (length (p .0)) (t .0) (t .1) in
     let whole : offsetOf (t .0) (p .0) (p .1) ≡ ds = value-of (t .2) in
-    let back = ap (λ (q : List ℕ × List ℕ). offsetOf (t .0) (q .0) (q .1)) (pair-back p alike) in
-    let long : length ds ≡ t .0 = ap length (sym whole) ∙ ap length (sym back) ∙ offset-length (t .0) (length (p .0)) (word (p .0)) (word (p .1)) m in
-    (omega (arith, m .within, m .short), r, subst (Below 16) whole (below-weaken 10 16 (offsetOf (t .0) (p .0) (p .1)) (lit≤ tt) (reduced-below (covered (t .0) (p .0) (p .1)))))
+    let long : length ds ≡ t .0 = ap length (sym whole) ∙ offset-many (t .0) (p .0) (p .1) w (alike .long) in
+    (omega (arith, alike .pin .short), r, subst (Below 16) whole (below-weaken 10 16 (offsetOf (t .0) (p .0) (p .1)) (lit≤ tt) (reduced-below (covered (t .0) (p .0) (p .1)))))
 
 pub digits-texty : (variable : Bool) (check : ℕ) (pin natural : List ℕ) (room : ℕ) → Texty (digitsJudged variable check pin natural room) room
 unfolding digitsJudged

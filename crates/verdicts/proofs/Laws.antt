@@ -23,11 +23,11 @@ use Rattle.numbers.specs.declared.Refusal.the-variants.{Field15, Check81, Unver
 use Rattle.numbers.proofs.Laws.{passed, failed, then-done, value-of}
 use Rattle.alphabet.specs.Alphabet.{valueOf}
 use Rattle.ibm3624.specs.Ibm3624.{covered, offsetOf, covers, digitEnd, offsetPresented}
-use Rattle.ibm3624.proofs.Laws.{offset-length, reduced-below}
+use Rattle.ibm3624.proofs.Laws.{offset-many, reduced-below}
 use Rattle.offsets.specs.Offsets.{given, pinAndNatural, offsetFor}
-use Rattle.offsets.specs.Answers.{pairIn, Fit}
+use Rattle.offsets.specs.Answers.{pairIn}
 use Rattle.offsets.specs.declared.Compared.{Compared}
-use Rattle.offsets.proofs.Laws.{covers-within, covers-not, matched}
+use Rattle.offsets.proofs.Laws.{covers-within, covers-not}
 use Rattle.verdicts.specs.Verdicts.{verdictOn, offsetVerdict}
 
 -- ---- the verdict, return by return
@@ -40,15 +40,15 @@ verdict-long variable check os p q e = go (covers variable check (length (p .0))
     go (done m) c h = absurd (let z : _≡_ {A = ℕ} 0 1 = cc in omega arith)
     go (refused r) c h = rw (covers-not variable check (length (p .0)) r c)
 
-module _ (variable : Bool) (check : ℕ) (p : Compared) (fit : Fit p) (presented : Pin) (clean : presented .digits < 16 ^ presented .length) (ds : List ℕ) (made : offsetFor variable check (pairIn p) ≡ done ds) where
+module _ (variable : Bool) (check : ℕ) (p : Compared) (presented : Pin) (clean : presented .digits < 16 ^ presented .length) (ds : List ℕ) (made : offsetFor variable check (pairIn p) ≡ done ds) where
   -- the offset that was made has as many digits as it covers
   covering : (m : ℕ) × (covers variable check (length (pairIn p .0)) ≡ done m) × (offsetOf m (pairIn p .0) (pairIn p .1) ≡ ds) × (length ds ≡ m)
   covering =
       let t = then-done (covers variable check (length (pairIn p .0))) _ ds made in
-      let n = row-length (p .length) (p .pin) in
-      let w : t .0 ≤ p .length = subst (λ (k : ℕ). t .0 ≤ k) n (covers-within variable check (length (pairIn p .0)) (t .0) (t .1)) in
+      let w = covers-within variable check (length (pairIn p .0)) (t .0) (t .1) in
+      let one-length = row-length (p .length) (p .natural) ∙ sym (row-length (p .length) (p .pin)) in
       let whole = value-of (t .2) in
-      (t .0, t .1, whole, ap length (sym whole) ∙ offset-length (t .0) (p .length) (p .pin) (p .natural) (matched p fit (t .0) w))
+      (t .0, t .1, whole, ap length (sym whole) ∙ offset-many (t .0) (pairIn p .0) (pairIn p .1) w one-length)
 
   shown : length (digitsOf presented) ≡ presented .length
   shown = row-length (presented .length) (presented .digits)
@@ -93,15 +93,23 @@ presented-held cs x e =
     let b = presented-below cs (s .0) (s .1) in
     (s .0, s .1, subst (λ (y : Pin). y .digits < 16 ^ y .length) (sym (s .2)) (word-lt (s .0) b), ap digitsOf (s .2) ∙ row-word (s .0) b)
 
--- a verdict 00 writes nothing
-pub verdict-nothing :
-    (variable : Bool) (code check : ℕ) (block account table enciphered offset ws : List ℕ)
-    → offsetVerdict variable code check block account table enciphered offset ≡ done ws → ws ≡ []
-unfolding offsetVerdict
-verdict-nothing variable code check block account table enciphered offset ws e =
-    let g = then-done (given code check block account table enciphered) _ ws e in
-    let s = then-done (offsetPresented offset) _ ws (g .2) in
-    let p = then-done (pinAndNatural code table (g .0)) _ ws (s .2) in
-    let m = then-done (covers variable check (length (p .0 .0))) _ ws (p .2) in
-    let l = then-done (unless Check81 (eqb (length (s .0)) (m .0)) (m .0)) _ ws (m .2) in
-    sym (passed Unverified01 (same (s .0) (offsetOf (m .0) (p .0 .0) (p .0 .1))) [] ws (l .2) .1)
+-- ---- a verdict 00
+
+-- what it has judged, and that it writes nothing
+module _ (variable : Bool) (code check : ℕ) (block account table enciphered offset ws : List ℕ) (e : offsetVerdict variable code check block account table enciphered offset ≡ done ws) where
+  pub verdict-done : (g : List ℕ × List ℕ × List ℕ) × (os : List ℕ) × (p : List ℕ × List ℕ) × (m : ℕ) × (given code check block account table enciphered ≡ done g)
+      × (offsetPresented offset ≡ done os) × (pinAndNatural code table g ≡ done p) × (covers variable check (length (p .0)) ≡ done m)
+      × (unless Unverified01 (same os (offsetOf m (p .0) (p .1))) [] ≡ done ws)
+  unfolding offsetVerdict
+  verdict-done =
+      let g = then-done (given code check block account table enciphered) _ ws e in
+      let s = then-done (offsetPresented offset) _ ws (g .2) in
+      let p = then-done (pinAndNatural code table (g .0)) _ ws (s .2) in
+      let m = then-done (covers variable check (length (p .0 .0))) _ ws (p .2) in
+      let l = then-done (unless Check81 (eqb (length (s .0)) (m .0)) (m .0)) _ ws (m .2) in
+      (g .0, s .0, p .0, m .0, g .1, s .1, p .1, m .1, l .2)
+
+  pub verdict-nothing : ws ≡ []
+  verdict-nothing =
+      let v = verdict-done in
+      sym (passed Unverified01 (same (v .1) (offsetOf (v .3) (v .2 .0) (v .2 .1))) [] ws (v .8) .1)

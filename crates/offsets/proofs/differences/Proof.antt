@@ -3,7 +3,7 @@
 use Prim.Native.Nat.{ℕ}
 use native.Mathlib.Omega.{arith}
 use mathlib.Core.List.{List, _++_}
-use mathlib.Core.Path.{_≡_, ap, ap₂, sym, _∙_, subst}
+use mathlib.Core.Path.{ap, ap₂, sym, _∙_, subst}
 use lib.IntN.{ℤ}
 use lib.ListN.{length, drop}
 use borrow.Author.Tests.{le-leb, lt-leb}
@@ -12,7 +12,7 @@ use Rattle.offsets.proofs.Laws.{comparison-of, comparison-bad, digits-a
 use Rattle.offsets.specs.declared.Compared.{Compared}
 use Rattle.offsets.specs.Answers.{refusalIn, pairIn}
 use Rattle.offsets.specs.Offsets.{digitsGiven, differencesOf}
-use Rattle.ibm3624.proofs.Laws.{covered-length}
+use Rattle.ibm3624.proofs.Laws.{covered-many}
 use Rattle.ibm3624.specs.Answers.{Matched}
 use Rattle.ibm3624.specs.Ibm3624.{covers, covered}
 use Rattle.pins.proofs.Laws.{count-of, count-bad}
@@ -20,7 +20,6 @@ use Rattle.pins.specs.Answers.{countOf}
 use Rattle.numbers.proofs.Laws.{does-refuse, does-write}
 use Rattle.numbers.specs.declared.Refusal.the-variants.{Room901, Check81}
 use Rattle.numbers.specs.Numbers.{numberOf}
-use Rattle.nibbles.specs.Nibbles.{word}
 use Rattle.offsets.proofs.differences.Statement.{statement}
 use Rattle.offsets.proofs.differences.Tie as tie
 
@@ -79,15 +78,12 @@ returns-3 c =
     let d = digitsGiven (a .check) (a .pin .now) (a .natural .now) in
     let p = comparison-of d _ (sym (c .before .before .before .before .before .comparison .given .1) ∙ c .before .before .before .before .before .before .before .handed .ensures) in
     let n = ap (λ (x : Compared). x .length) (p .2) in
-    let alike = digits-alike (a .check) (a .pin .now) (a .natural .now) (p .0) (p .1) in
     let q = covers-not ((a .settings) .variable) (a .check) (length (p .0 .0)) _ (count-bad (covers ((a .settings) .variable) (a .check) (length (p .0 .0))) _ (sym (c .before .enum-told2 .given .1) ∙ (c .before .before .before .covering .ensures ∙ ap (λ (k : ℕ). countOf (covers ((a .settings) .variable) (a .check) k)) n))) in
     does-refuse o Check81 (a .out .now) (c .refused3 .result) (differences-long ((a .settings) .variable) (a .check) (a .pin .now) (a .natural .now) room (le-leb 12 room (c .before .before .before .before .before .before .before .before .if1 .left)) (p .0) (p .1) q) (c .refused3 .ensures .0) (c .refused3 .ensures .1)
 
 put-differences-requires : tie.Need-put-differences-requires
 put-differences-requires c κs =
     let a = c .before .before .before .before .before .before .before .before .before .before .before .before .args in
-    let room = length (a .out .now) in
-    let o = differencesOf ((a .settings) .variable) (a .check) (a .pin .now) (a .natural .now) room in
     let d = digitsGiven (a .check) (a .pin .now) (a .natural .now) in
     let p = comparison-of d _ (sym (c .before .before .before .before .before .before .comparison .given .1) ∙ c .before .before .before .before .before .before .before .before .handed .ensures) in
     let n = ap (λ (x : Compared). x .length) (p .2) in
@@ -101,8 +97,6 @@ put-differences-requires c κs =
 cast-done : tie.Need-cast-done
 cast-done c =
     let a = c .before .before .before .before .before .before .before .before .before .before .before .before .before .before .args in
-    let room = length (a .out .now) in
-    let o = differencesOf ((a .settings) .variable) (a .check) (a .pin .now) (a .natural .now) room in
     let d = digitsGiven (a .check) (a .pin .now) (a .natural .now) in
     let p = comparison-of d _ (sym (c .before .before .before .before .before .before .before .before .comparison .given .1) ∙ c .before .before .before .before .before .before .before .before .before .before .handed .ensures) in
     let n = ap (λ (x : Compared). x .length) (p .2) in
@@ -110,7 +104,6 @@ cast-done c =
     let m = count-of (covers ((a .settings) .variable) (a .check) (length (p .0 .0))) _ (sym (c .before .before .before .before .covering2 .given .1) ∙ (c .before .before .before .before .before .before .covering .ensures ∙ ap (λ (k : ℕ). countOf (covers ((a .settings) .variable) (a .check) k)) n)) in
     let k = c .before .before .before .before .covering2 .given .0 .0 in
     let w = covers-within ((a .settings) .variable) (a .check) (length (p .0 .0)) k m in
-    let fits = matched (valueIn (p .0)) (pair-fit (p .0) alike) k w in
     omega (arith, w, alike .pin .short)
 
 done-requires : tie.Need-done-requires
@@ -131,10 +124,9 @@ returns-4 c =
     let m = count-of (covers ((a .settings) .variable) (a .check) (length (p .0 .0))) _ (sym (c .before .before .before .before .before .covering2 .given .1) ∙ (c .before .before .before .before .before .before .before .covering .ensures ∙ ap (λ (k : ℕ). countOf (covers ((a .settings) .variable) (a .check) k)) n)) in
     let k = c .before .before .before .before .before .covering2 .given .0 .0 in
     let w = covers-within ((a .settings) .variable) (a .check) (length (p .0 .0)) k m in
-    let fits = matched (valueIn (p .0)) (pair-fit (p .0) alike) k w in
     let back = ap (λ (x : Compared). covered k (pairIn x .0) (pairIn x .1)) (p .2) ∙ ap (λ (q : List ℕ × List ℕ). covered k (q .0) (q .1)) (pair-back (p .0) alike) in
     let ws = covered k (p .0 .0) (p .0 .1) in
-    let long : length ws ≡ k = ap length (sym (ap (λ (q : List ℕ × List ℕ). covered k (q .0) (q .1)) (pair-back (p .0) alike))) ∙ covered-length k (length (p .0 .0)) (word (p .0 .0)) (word (p .0 .1)) fits in
+    let long = covered-many k (p .0 .0) (p .0 .1) w (alike .long) in
     does-write o ws (a .out .now) _ (c .done .result) (differences-made ((a .settings) .variable) (a .check) (a .pin .now) (a .natural .now) room (le-leb 12 room (c .before .before .before .before .before .before .before .before .before .before .before .before .if1 .left)) (p .0) (p .1) k m) (c .done .ensures .0) (c .done .ensures .1 ∙ sym long)
     (c .before .before .put-differences .ensures ∙ ap₂ (λ (x : List ℤ) (j : ℕ). x ++ drop j (a .out .now)) back (sym long))
 

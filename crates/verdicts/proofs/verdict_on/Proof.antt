@@ -38,7 +38,7 @@ returns-2 c =
     let h = reading-got o _ (sym (c .before .before .before .before .made .given .1) ∙ c .before .before .before .before .before .before .offset-for .ensures) in
     let n = ap (λ (x : Pin). x .length) (h .2) in
     let d = ap (λ (x : Pin). x .digits) (h .2) in
-    rw (verdict-other-length (a .variable) (a .check) (a .p) (c .before .before .before .before .before .before .before .pre .0) (a .presented) (c .before .before .before .before .before .before .before .pre .1) (h .0) (h .1) (λ e. c .if1 .taken (e ∙ sym n)))
+    rw (verdict-other-length (a .variable) (a .check) (a .p) (a .presented) (c .before .before .before .before .before .before .before .pre .1) (h .0) (h .1) (λ e. c .if1 .taken (e ∙ sym n)))
 
 returns-3 : tie.Need-returns-3
 returns-3 c =
@@ -48,7 +48,7 @@ returns-3 c =
     let h = reading-got o _ (sym (c .before .before .before .before .before .before .before .made .given .1) ∙ c .before .before .before .before .before .before .before .before .before .offset-for .ensures) in
     let n = ap (λ (x : Pin). x .length) (h .2) in
     let d = ap (λ (x : Pin). x .digits) (h .2) in
-    rw (verdict-other (a .variable) (a .check) (a .p) (c .before .before .before .before .before .before .before .before .before .before .pre .0) (a .presented) (c .before .before .before .before .before .before .before .before .before .before .pre .1) (h .0) (h .1) (c .before .before .before .if1 .left ∙ n) (λ e. c .if2 .taken (e ∙ sym d)))
+    rw (verdict-other (a .variable) (a .check) (a .p) (a .presented) (c .before .before .before .before .before .before .before .before .before .before .pre .1) (h .0) (h .1) (c .before .before .before .if1 .left ∙ n) (λ e. c .if2 .taken (e ∙ sym d)))
 
 returns-4 : tie.Need-returns-4
 returns-4 c =
@@ -58,7 +58,7 @@ returns-4 c =
     let h = reading-got o _ (sym (c .before .before .before .before .before .before .before .made .given .1) ∙ c .before .before .before .before .before .before .before .before .before .offset-for .ensures) in
     let n = ap (λ (x : Pin). x .length) (h .2) in
     let d = ap (λ (x : Pin). x .digits) (h .2) in
-    rw (verdict-same (a .variable) (a .check) (a .p) (c .before .before .before .before .before .before .before .before .before .before .pre .0) (a .presented) (c .before .before .before .before .before .before .before .before .before .before .pre .1) (h .0) (h .1) (c .before .before .before .if1 .left ∙ n) (c .if2 .left ∙ d)) (ap Held (word-none []))
+    rw (verdict-same (a .variable) (a .check) (a .p) (a .presented) (c .before .before .before .before .before .before .before .before .before .before .pre .1) (h .0) (h .1) (c .before .before .before .if1 .left ∙ n) (c .if2 .left ∙ d)) (ap Held (word-none []))
 
 pub verdict-on-spec : {M : Type 1} → statement M
 verdict-on-spec =
