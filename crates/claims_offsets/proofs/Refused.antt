@@ -1,6 +1,6 @@
 -- For what each judgement of the calls below the command level is refused.
 -- Assumes nothing.
-use Prim.Native.Nat.{ℕ, _-_}
+use Prim.Native.Nat.{ℕ}
 use mathlib.Core.Path.{_≡_, refl, sym, subst}
 use mathlib.Core.Logic.{inl, inr}
 use mathlib.Core.List.{List, [], map}
@@ -10,7 +10,7 @@ use lib.Dec.{leb, eqb}
 use Rattle.nibbles.specs.Nibbles.{nibs, packs, within, every, same}
 use Rattle.alphabet.specs.Alphabet.{allOf, valueOf}
 use Rattle.alphabet.specs.declared.Class.the-variants.{Digit}
-use Rattle.numbers.specs.Numbers.{Outcome, refused, unless}
+use Rattle.numbers.specs.Numbers.{Outcome, unless}
 use Rattle.numbers.specs.declared.Refusal.{Refusal}
 use Rattle.numbers.specs.declared.Refusal.the-variants.{Unverified01, Field15, Block20, Format23, Length24, Table25, NotHere69, Check81, Room901}
 use Rattle.formats.specs.Formats.{codeOf, formatOf}
@@ -20,7 +20,7 @@ use Rattle.formats.specs.declared.Format.{Format}
 use Rattle.pins.specs.Pins.{digit, pinLength, digitsHanded, pinHanded, padded, accountOf, accountField, sized}
 use Rattle.blocks.specs.Blocks.{readRow}
 use Rattle.validation.specs.Validation.{letterP, isWhole, isTemplate, replaced, validationRow}
-use Rattle.ibm3624.specs.Ibm3624.{tableSized, tableOf, naturalOf, naturalHanded, checkLength, covers, differences, covered, offsetOf, offsetText, digitEnd, offsetPresented}
+use Rattle.ibm3624.specs.Ibm3624.{tableSized, tableOf, naturalOf, naturalHanded, checkLength, covers, covered, offsetOf, offsetText, digitEnd, offsetPresented}
 use Rattle.offsets.specs.Offsets.{given, pinWithNatural, pinAndNatural, digitsGiven, offsetJudged, digitsJudged, offsetMade, offsetOfDigits, differencesOf}
 use Rattle.verdicts.specs.Verdicts.{offsetVerdict}
 use Rattle.pvv.specs.Pvv.{pvvOf, inputRow, keyIndex, presented, pvvInput, pvvVerdict}

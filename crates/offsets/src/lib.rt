@@ -1,6 +1,6 @@
 // The IBM 3624 calls over a block or over digits: offset and differences.
 ghost use mathlib.Core.Path.{_≡_};
-ghost use Prim.Native.Nat.{_^_, _<_, _≤_};
+ghost use Prim.Native.Nat.{_^_, _<_};
 ghost use lib.ListN.{length};
 ghost use Rattle.nibbles.specs.Nibbles.{every, row};
 ghost use Rattle.numbers.specs.Promise.{Does, quietly};
