@@ -1,6 +1,6 @@
 -- One answer to every promise of the crates of PIN blocks: each function cites the law of its shape.
 -- Assumes nothing.
-use Rattle.claims_functions.specs.Blocks.{BlocksSettled, TranslationSettled, ValidationSettled, Ibm3624Settled, PvvSettled, OffsetsSettled}
+use Rattle.claims_functions.specs.Blocks.{BlocksSettled, TranslationSettled, ValidationSettled, Ibm3624Settled, PvvSettled, OffsetsSettled, VerdictsSettled}
 use Rattle.claims_functions.proofs.Once.{settled, left, answered, verdict}
 
 pub blocks-once : BlocksSettled
@@ -49,12 +49,18 @@ pvv-once = record {
 pub offsets-once : OffsetsSettled
 offsets-once = record {
   Comparison·refusal = λ κs a r r′ ends ends′. settled;
+  taken = λ κs a r r′ ends ends′. settled;
   with-natural = λ κs a r r′ ends ends′. settled;
+  paired = λ κs a r r′ ends ends′. settled;
   offset-for = λ κs a r r′ ends ends′. settled;
   answer = λ κs a r r′ ends ends′. answered 1;
   offset = λ κs a r r′ ends ends′. answered 7;
   offset-of-digits = λ κs a r r′ ends ends′. answered 4;
   differences = λ κs a r r′ ends ends′. answered 4;
+}
+
+pub verdicts-once : VerdictsSettled
+verdicts-once = record {
   verdict-on = λ κs a r r′ ends ends′. settled;
   offset-verdict = λ κs a r r′ ends ends′. verdict;
 }

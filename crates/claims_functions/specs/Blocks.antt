@@ -7,6 +7,7 @@ use Rattle.validation.proofs as Validation
 use Rattle.ibm3624.proofs as Ibm3624
 use Rattle.pvv.proofs as Pvv
 use Rattle.offsets.proofs as Offsets
+use Rattle.verdicts.proofs as Verdicts
 use Rattle.claims_functions.specs.Once.{Settled}
 
 -- every public function of blocks
@@ -50,11 +51,16 @@ pub record PvvSettled : Type 0 where
 -- every public function of offsets
 pub record OffsetsSettled : Type 0 where
   pub Comparison·refusal : Settled Offsets.Comparison.refusal.ended Offsets.Comparison.refusal.Reads.Learnt
+  pub taken : Settled Offsets.taken.ended Offsets.taken.Reads.Learnt
   pub with-natural : Settled Offsets.with_natural.ended Offsets.with_natural.Reads.Learnt
+  pub paired : Settled Offsets.paired.ended Offsets.paired.Reads.Learnt
   pub offset-for : Settled Offsets.offset_for.ended Offsets.offset_for.Reads.Learnt
   pub answer : Settled Offsets.answer.ended Offsets.answer.Reads.Learnt
   pub offset : Settled Offsets.offset.ended Offsets.offset.Reads.Learnt
   pub offset-of-digits : Settled Offsets.offset_of_digits.ended Offsets.offset_of_digits.Reads.Learnt
   pub differences : Settled Offsets.differences.ended Offsets.differences.Reads.Learnt
-  pub verdict-on : Settled Offsets.verdict_on.ended Offsets.verdict_on.Reads.Learnt
-  pub offset-verdict : Settled Offsets.offset_verdict.ended Offsets.offset_verdict.Reads.Learnt
+
+-- every public function of verdicts
+pub record VerdictsSettled : Type 0 where
+  pub verdict-on : Settled Verdicts.verdict_on.ended Verdicts.verdict_on.Reads.Learnt
+  pub offset-verdict : Settled Verdicts.offset_verdict.ended Verdicts.offset_verdict.Reads.Learnt
