@@ -16,14 +16,12 @@ use Rattle.alphabet.specs.declared.Class.the-variants.{Digit}
 use Rattle.numbers.specs.Numbers.{Outcome, done, refused, andThen, unless}
 use Rattle.numbers.specs.declared.Refusal.the-variants.{Unverified01, Field15, Room901}
 use Rattle.numbers.proofs.Laws.{passed, then-done}
-use Rattle.formats.specs.Formats.{codeOf, formatOf}
-use Rattle.pins.specs.Pins.{accountOf, accountField, sized}
-use Rattle.blocks.specs.Blocks.{readRow}
+use Rattle.pins.specs.Pins.{sized}
 use Rattle.ibm3624.specs.Ibm3624.{covers, covered, offsetOf, offsetText, moduloTen, digitEnd, offsetPresented}
 use Rattle.offsets.specs.Offsets.{digitsGiven, offsetJudged, digitsJudged, differencesOf, spelt}
 use Rattle.verdicts.specs.Verdicts.{offsetVerdict}
 use Rattle.verdicts.proofs.Laws.{verdict-done}
-use Rattle.pvv.specs.Pvv.{pvvOf, keyIndex, presented, pvvMade, pvvVerdict}
+use Rattle.pvv.specs.Pvv.{pvvOf, presented, pvvGiven, pinRead, pvvMade, pvvVerdict}
 use Rattle.claims_offsets.specs.Claims.{VerdictIsOffset, PvvVerdictIsPvv, OffsetIsReduced}
 use Rattle.claims_offsets.proofs.Texts.{offset-verifies}
 
@@ -100,13 +98,10 @@ verdict-is-offset variable code check block account table enciphered offset room
 pub pvv-verdict-is-pvv : PvvVerdictIsPvv
 unfolding pvvVerdict pvvMade
 pvv-verdict-is-pvv code index block account enciphered pvv room r e =
-    let s = then-done (sized 8 block) _ [] e in
-    let k = then-done (accountOf account) _ [] (s .2) in
-    let i = then-done (keyIndex index) _ [] (k .2) in
-    let m = then-done (sized 8 enciphered) _ [] (i .2) in
+    let g = then-done (pvvGiven code index block account) _ [] e in
+    let m = then-done (sized 8 enciphered) _ [] (g .2) in
     let p = then-done (presented pvv) _ [] (m .2) in
-    let f = then-done (formatOf (codeOf code)) _ [] (p .2) in
-    let d = then-done (readRow (f .0) (accountField (k .0)) (s .0)) _ [] (f .2) in
+    let d = then-done (pinRead code (g .0)) _ [] (p .2) in
     let equal = same-true (pvvOf (m .0)) (p .0) (passed Unverified01 (same (pvvOf (m .0)) (p .0)) [] [] (d .2) .0) in
     let t = passed Field15 (eqb (length pvv) 4 && allOf Digit pvv) (map valueOf pvv) (p .0) (p .1) in
     let all = sym (all-every pvv) ∙ and-right (eqb (length pvv) 4) (allOf Digit pvv) (t .0) in

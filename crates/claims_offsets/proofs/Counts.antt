@@ -8,7 +8,6 @@ use mathlib.Core.Bool.{Bool, true, false}
 use lib.ListN.{length, length-map, length-drop}
 use lib.IntN.{ℤ}
 use lib.Dec.{leb}
-use borrow.Author.Tests.{leb-true}
 use Rattle.nibbles.specs.Nibbles.{within}
 use Rattle.nibbles.proofs.Laws.{inside-low, every-below, nibs-length}
 use Rattle.numbers.specs.Numbers.{Outcome, done, unless}
@@ -23,8 +22,8 @@ use Rattle.ibm3624.specs.Ibm3624.{tableSized, tableOf, naturalPin, checkLength,
 use Rattle.ibm3624.proofs.Laws.{covered-many, natural-done, natural-long, text-length}
 use Rattle.offsets.specs.Offsets.{given, pinWithNatural, pinAndNatural, digitsGiven, offsetFor, offsetJudged, digitsJudged, offsetMade, offsetOfDigits, differencesOf}
 use Rattle.offsets.proofs.Laws.{digits-alike, covers-within}
-use Rattle.pvv.specs.Pvv.{pvvOf, keyIndex, pvvInput, pvvMade}
-use Rattle.pvv.proofs.Laws.{pvv-length, input-sixteen}
+use Rattle.pvv.specs.Pvv.{pvvOf, pvvInput, pvvMade}
+use Rattle.pvv.proofs.Laws.{pvv-length, call-input}
 use Rattle.claims_blocks.specs.Claims.{IsBytes}
 use Rattle.claims_offsets.specs.Numbers.{FourToTwelve, PinLength}
 
@@ -152,19 +151,7 @@ differences-counts variable check pin natural room zs e =
 
 -- the PVV's input
 pub input-eight : (code index : ℕ) (block account : List ℕ) (room : ℕ) (w : List ℕ) → pvvInput code index block account room ≡ done w → length w ≡ 8
-unfolding pvvInput
-input-eight code index block account room w e =
-    let r = then-done (unless Room901 (leb 8 room) room) _ w e in
-    let s = then-done (sized 8 block) _ w (r .2) in
-    let k = then-done (accountOf account) _ w (s .2) in
-    let i = then-done (keyIndex index) _ w (k .2) in
-    let f = then-done (formatOf (codeOf code)) _ w (i .2) in
-    let d = then-done (readRow (f .0) (accountField (k .0)) (s .0)) _ w (f .2) in
-    let n = account-done account (k .0) (k .1) in
-    let h = passed Field15 (leb index 6) index (i .0) (i .1) in
-    let six = leb-true index 6 (h .0) in
-    let pin = read-pinned (f .0) (accountField (k .0)) (s .0) (d .0) (omega (arith, n .0)) (sized-sixteen block (s .0) (s .1)) (d .1) in
-    ap length (sym (value-of (d .2))) ∙ sixteen-bytes _ (input-sixteen (k .0) (d .0) (i .0) (n .0) (n .1) (subst (λ (x : ℕ). x ≤ 6) (h .1) six) pin)
+input-eight code index block account room = eight (pvvInput code index block account room) room (call-input code index block account room)
 
 -- a PVV
 pub pvv-four : (enciphered : List ℕ) (room : ℕ) → IsBytes enciphered → (w : List ℕ) → pvvMade enciphered room ≡ done w → length w ≡ 4

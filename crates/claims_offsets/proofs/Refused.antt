@@ -23,7 +23,7 @@ use Rattle.validation.specs.Validation.{letterP, isWhole, isTemplate, replaced,
 use Rattle.ibm3624.specs.Ibm3624.{tableSized, tableOf, naturalOf, naturalHanded, checkLength, covers, covered, offsetOf, offsetText, digitEnd, offsetPresented}
 use Rattle.offsets.specs.Offsets.{given, pinWithNatural, pinAndNatural, digitsGiven, offsetJudged, digitsJudged, offsetMade, offsetOfDigits, differencesOf}
 use Rattle.verdicts.specs.Verdicts.{offsetVerdict}
-use Rattle.pvv.specs.Pvv.{pvvOf, inputRow, keyIndex, presented, pvvInput, pvvVerdict}
+use Rattle.pvv.specs.Pvv.{pvvOf, inputRow, keyIndex, presented, pvvGiven, pinRead, pvvInput, pvvVerdict}
 use Rattle.claims_blocks.proofs.Judged.{Only, Fault, done-only, refused-only, test-only, then-only}
 use Rattle.claims_blocks.proofs.Trips.{read-faults}
 
@@ -170,9 +170,19 @@ module _ (these : Refusal → Type 0) where
       (λ m. then-only these (unless Check81 (eqb (length os) m) m) _ (test-only these Check81 v (eqb (length os) m) m)
       (λ _. test-only these Unverified01 n (same os (offsetOf m (p .0) (p .1))) [])))))
 
-  -- 15 for a key index
-  pub index-only : these Field15 → (index : ℕ) → Only these (keyIndex index)
-  index-only c index = test-only these Field15 c (leb index 6) index
+  -- 15 for the fields of the PVV calls
+  pub pvv-given-only : these Field15 → (code index : ℕ) (block account : List ℕ) → Only these (pvvGiven code index block account)
+  unfolding pvvGiven
+  pvv-given-only c code index block account =
+      then-only these (sized 8 block) _ (sized-only c block)
+      (λ ns. then-only these (accountOf account) _ (account-only c account)
+      (λ digits. then-only these (keyIndex index) _ (test-only these Field15 c (leb index 6) index)
+      (λ k. done-only these (ns, digits, k))))
+
+  -- 23, 69, then the block
+  pub pin-read-only : these Format23 → these NotHere69 → these Block20 → these Length24 → (code : ℕ) (g : List ℕ × List ℕ × ℕ) → Only these (pinRead code g)
+  pin-read-only u k b l code g =
+      then-only these (formatOf (codeOf code)) _ (format-only u k (codeOf code)) (λ f. row-only b l f (accountField (g .1)) (g .0))
 
   -- the call that makes the PVV's input
   pub input-only : these Room901 → these Field15 → these Format23 → these NotHere69 → these Block20 → these Length24
@@ -180,23 +190,17 @@ module _ (these : Refusal → Type 0) where
   unfolding pvvInput
   input-only r c u k b l code index block account room =
       then-only these (unless Room901 (leb 8 room) room) _ (room-only r 8 room)
-      (λ _. then-only these (sized 8 block) _ (sized-only c block)
-      (λ ns. then-only these (accountOf account) _ (account-only c account)
-      (λ digits. then-only these (keyIndex index) _ (index-only c index)
-      (λ i. then-only these (formatOf (codeOf code)) _ (format-only u k (codeOf code))
-      (λ f. then-only these (readRow f (accountField digits) ns) _ (row-only b l f (accountField digits) ns)
-      (λ ds. done-only these (packs (inputRow digits i ds))))))))
+      (λ _. then-only these (pvvGiven code index block account) _ (pvv-given-only c code index block account)
+      (λ g. then-only these (pinRead code g) _ (pin-read-only u k b l code g)
+      (λ ds. done-only these (packs (inputRow (g .1) (g .2) ds)))))
 
   -- the verdict on a PVV
   pub pvv-verdict-only : these Unverified01 → these Field15 → these Format23 → these NotHere69 → these Block20 → these Length24
       → (code index : ℕ) (block account enciphered pvv : List ℕ) → Only these (pvvVerdict code index block account enciphered pvv)
   unfolding pvvVerdict
   pvv-verdict-only n c u k b l code index block account enciphered pvv =
-      then-only these (sized 8 block) _ (sized-only c block)
-      (λ ns. then-only these (accountOf account) _ (account-only c account)
-      (λ digits. then-only these (keyIndex index) _ (index-only c index)
-      (λ _. then-only these (sized 8 enciphered) _ (sized-only c enciphered)
+      then-only these (pvvGiven code index block account) _ (pvv-given-only c code index block account)
+      (λ g. then-only these (sized 8 enciphered) _ (sized-only c enciphered)
       (λ es. then-only these (presented pvv) _ (test-only these Field15 c (eqb (length pvv) 4 && allOf Digit pvv) (map valueOf pvv))
-      (λ ps. then-only these (formatOf (codeOf code)) _ (format-only u k (codeOf code))
-      (λ f. then-only these (readRow f (accountField digits) ns) _ (row-only b l f (accountField digits) ns)
-      (λ _. test-only these Unverified01 n (same (pvvOf es) ps) [])))))))
+      (λ ps. then-only these (pinRead code g) _ (pin-read-only u k b l code g)
+      (λ _. test-only these Unverified01 n (same (pvvOf es) ps) []))))

@@ -14,7 +14,7 @@ use Rattle.numbers.proofs.Laws.{passed}
 use Rattle.ibm3624.specs.Ibm3624.{covers, offsetOf, offsetPresented}
 use Rattle.offsets.specs.Offsets.{given, pinAndNatural}
 use Rattle.verdicts.specs.Verdicts.{offsetVerdict}
-use Rattle.pvv.specs.Pvv.{pvvOf, pvvVerdict}
+use Rattle.pvv.specs.Pvv.{pvvOf, pvvGiven, pvvVerdict}
 use Rattle.claims_offsets.specs.Claims.{Exactly, VerdictExactly, PvvVerdictExactly}
 
 -- a comparison of two rows is 00 exactly where they are the same
@@ -39,6 +39,6 @@ verdict-exactly variable code check m block account table enciphered offset os g
     (sym (verdict-compares variable code check m block account table enciphered offset os g p a b c d l)) (compared os (offsetOf m (p .0) (p .1)))
 
 pub pvv-verdict-exactly : PvvVerdictExactly
-unfolding pvvVerdict
+unfolding pvvVerdict pvvGiven
 pvv-verdict-exactly code index k block account enciphered pvv ns digits es ps ds f a b c d e g h =
     subst (λ (o : Outcome (List ℕ)). Exactly o (pvvOf es ≡ ps)) (sym (rw (a, b, c, d, e, g, h))) (compared (pvvOf es) ps)

@@ -12,11 +12,11 @@ use lib.Seq.{slice, drop-cons, take-all, take-at, length-take-le}
 use lib.Dec.{leb, eqb, lit≤}
 use borrow.Author.Tests.{leb-true, leb-false, le-leb, lt-leb, eqb-true, not-true, not-false}
 use Rattle.nibbles.specs.Nibbles.{row, word, nibs, within, same}
-use Rattle.nibbles.proofs.Laws.{Below, row-length, row-below, row-word, row-take, row-part, word-row, word-lt, word-under, word-append, below-drop, below-weaken, map-below, and-left, inside, under, over, same-refl, same-false}
+use Rattle.nibbles.proofs.Laws.{Below, row-length, row-below, row-word, row-take, row-part, word-row, word-lt, word-under, word-append, nibs-length, below-drop, below-weaken, map-below, and-left, inside, under, over, same-refl, same-false}
 use Rattle.alphabet.specs.Alphabet.{allOf, valueOf, characters}
 use Rattle.alphabet.specs.declared.Class.the-variants.{Digit}
 use Rattle.alphabet.proofs.Laws.{value-below}
-use Rattle.numbers.specs.Numbers.{Outcome, done, refused, andThen, unless}
+use Rattle.numbers.specs.Numbers.{Outcome, done, refused, unless}
 use Rattle.numbers.specs.declared.Refusal.{Refusal}
 use Rattle.numbers.specs.declared.Refusal.the-variants.{Unverified01, Field15, Room901}
 use Rattle.numbers.specs.Promise.{Does, quietly}
@@ -28,12 +28,14 @@ use Rattle.pins.specs.Answers.{pinOf, rowOf}
 use Rattle.pins.specs.declared.Pin.{Pin}
 use Rattle.pins.specs.declared.Row.{Row}
 use Rattle.pins.specs.declared.Row.the-variants.{Held, Refused}
-use Rattle.pins.proofs.Laws.{Pinned, account-done, pin-row, row-held, row-refused}
+use Rattle.pins.proofs.Laws.{Pinned, sized-done, account-done, account-under, account-row, block-row, pin-row, row-held, row-refused}
 use Rattle.blocks.specs.Answers.{digitsOf, blockOf, bytesOf, Roomy}
-use Rattle.blocks.specs.Blocks.{readRow}
-use Rattle.blocks.proofs.Laws.{Blocky, answered, roomy, Sixteen, read-pinned, field-sixteen, bytes-sixteen}
-use Rattle.pvv.specs.Pvv.{those, pvvOf, inputRow, keyIndex, presented, pvvInput, pvvMade, pvvVerdict}
-use Rattle.pvv.specs.Answers.{Taken}
+use Rattle.blocks.proofs.Laws.{Blocky, answered, roomy, Sixteen, read-pinned}
+use Rattle.pvv.specs.Pvv.{those, pvvOf, inputRow, keyIndex, presented, pvvGiven, pinRead, pvvInput, pvvMade, pvvVerdict}
+use Rattle.pvv.specs.Answers.{rowsOf, givenOf, rowsIn, Taken}
+use Rattle.pvv.specs.declared.Rows.{Rows}
+use Rattle.pvv.specs.declared.Given.{Given}
+use Rattle.pvv.specs.declared.Given.the-variants as fields
 
 -- ---- lists
 
@@ -234,48 +236,67 @@ an-index index r e h = sym e ∙ not-false r h
 pub no-index : (index : ℕ) (r : Bool) → r ≡ leb index 6 → not r ≡ true → leb index 6 ≡ false
 no-index index r e h = sym e ∙ not-true r h
 
--- ---- a judgement in two parts, and what it comes to with the next
+-- ---- the fields at 15
 
-module _ {A B C : Type 0} (o : Outcome A) (f : A → Outcome B) (g : B → Outcome C) where
-  pub parts-bad : (q : Refusal) → andThen o f ≡ refused q → andThen o (λ a. andThen (f a) g) ≡ refused q
-  parts-bad q e = go o e
-    where
-      go : (x : Outcome A) → andThen x f ≡ refused q → andThen x (λ a. andThen (f a) g) ≡ refused q
-      go (done a) h = ap (λ (y : Outcome B). andThen y g) h
-      go (refused p) h = cc
+pub given-each :
+    (code index : ℕ) (block account : List ℕ) (g : List ℕ × List ℕ × ℕ) → pvvGiven code index block account ≡ done g
+    → (sized 8 block ≡ done (g .0)) × (accountOf account ≡ done (g .1)) × (keyIndex index ≡ done (g .2))
+unfolding pvvGiven
+given-each code index block account g e =
+    let s = then-done (sized 8 block) _ g e in
+    let k = then-done (accountOf account) _ g (s .2) in
+    let i = then-done (keyIndex index) _ g (k .2) in
+    subst (λ (h : List ℕ × List ℕ × ℕ). (sized 8 block ≡ done (h .0)) × (accountOf account ≡ done (h .1)) × (keyIndex index ≡ done (h .2))) (value-of (i .2)) (s .1, k .1, i .1)
 
-  pub parts-done : (b : B) → andThen o f ≡ done b → andThen o (λ a. andThen (f a) g) ≡ g b
-  parts-done b e = go o e
-    where
-      go : (x : Outcome A) → andThen x f ≡ done b → andThen x (λ a. andThen (f a) g) ≡ g b
-      go (done a) h = ap (λ (y : Outcome B). andThen y g) h
-      go (refused p) h = absurd (let z : _≡_ {A = ℕ} 0 1 = cc in omega arith)
+index-small : (index k : ℕ) → keyIndex index ≡ done k → k ≤ 6
+index-small index k e = let j = passed Field15 (leb index 6) index k e in subst (λ (m : ℕ). m ≤ 6) (j .1) (leb-true index 6 (j .0))
 
--- a block as a code says it is to be read
-abbrev pub readBy : ℕ → List ℕ → List ℕ → Outcome (List ℕ)
-readBy code field ns = andThen (formatOf (codeOf code)) (λ f. readRow f field ns)
+given-of : (o : Outcome (List ℕ × List ℕ × ℕ)) (r : Rows) → fields.Of r ≡ givenOf o → (g : List ℕ × List ℕ × ℕ) × (o ≡ done g) × (r ≡ rowsOf g)
+given-of (done g) r e = (g, refl, cc)
+given-of (refused q) r e = absurd (let z : _≡_ {A = ℕ} 0 1 = cc in omega arith)
 
-pub by-pinned : (code : ℕ) (field ns ds : List ℕ) → length field ≡ 16 → length ns ≡ 16 → readBy code field ns ≡ done ds → Pinned ds
-by-pinned code field ns ds h k e =
-    let f = then-done (formatOf (codeOf code)) (λ f. readRow f field ns) ds e in
-    read-pinned (f .0) field ns ds h k (f .2)
+given-bad : (o : Outcome (List ℕ × List ℕ × ℕ)) (q : Refusal) → fields.Bad q ≡ givenOf o → o ≡ refused q
+given-bad (done g) q e = absurd (let z : _≡_ {A = ℕ} 0 1 = cc in omega arith)
+given-bad (refused p) q e = cc
 
-pub call-input : (code index : ℕ) (block account : List ℕ) (room : ℕ) → Below 256 block → Blocky (pvvInput code index block account room) room
+-- what the answer tells of the fields
+module _ (code index : ℕ) (block account : List ℕ) (given : Given) (e : given ≡ givenOf (pvvGiven code index block account)) where
+  pub fields-of : Below 256 block → (r : Rows) → given ≡ fields.Of r → (pvvGiven code index block account ≡ done (rowsIn r)) × (r .account < 16 ^ 12) × (r .index ≤ 6)
+  fields-of b r h =
+      let t = given-of (pvvGiven code index block account) r (sym h ∙ e) in
+      let f = given-each code index block account (t .0) (t .1) in
+      let digits = ap (λ (x : Rows). x .account) (t .2) in
+      let k = ap (λ (x : Rows). x .index) (t .2) in
+      let ns = block-row block (t .0 .0) (r .block) (f .0) b (ap (λ (x : Rows). x .block) (t .2)) in
+      let ds = account-row account (t .0 .1) (r .account) (f .1) digits in (
+        t .1 ∙ (λ i. done (sym ns i, sym ds i, sym k i)),
+        account-under account (t .0 .1) (r .account) (f .1) digits,
+        subst (λ (m : ℕ). m ≤ 6) (sym k) (index-small index (t .0 .2) (f .2)),
+      )
+
+  pub fields-bad : (q : Refusal) → given ≡ fields.Bad q → pvvGiven code index block account ≡ refused q
+  fields-bad q h = given-bad (pvvGiven code index block account) q (sym h ∙ e)
+
+-- what is read of such rows is a PIN
+pub read-pin : (code : ℕ) (g : List ℕ × List ℕ × ℕ) (ds : List ℕ) → length (g .0) ≡ 16 → length (g .1) ≡ 12 → pinRead code g ≡ done ds → Pinned ds
+read-pin code g ds h k e =
+    let f = then-done (formatOf (codeOf code)) _ ds e in
+    read-pinned (f .0) (accountField (g .1)) (g .0) ds (omega arith) h (f .2)
+
+pub call-input : (code index : ℕ) (block account : List ℕ) (room : ℕ) → Blocky (pvvInput code index block account room) room
 unfolding pvvInput
-call-input code index block account room b bs e =
+call-input code index block account room bs e =
     let r = then-done (unless Room901 (leb 8 room) room) _ bs e in
-    let s = then-done (sized 8 block) _ bs (r .2) in
-    let k = then-done (accountOf account) _ bs (s .2) in
-    let i = then-done (keyIndex index) _ bs (k .2) in
-    let f = then-done (formatOf (codeOf code)) _ bs (i .2) in
-    let d = then-done (readRow (f .0) (accountField (k .0)) (s .0)) _ bs (f .2) in
-    let n = account-done account (k .0) (k .1) in
-    let p = read-pinned (f .0) (accountField (k .0)) (s .0) (d .0) (field-sixteen account (k .0) (k .1) .long) (bytes-sixteen block (s .0) b (s .1) .long) (d .1) in
-    let j = passed Field15 (leb index 6) index (i .0) (i .1) in (
+    let g = then-done (pvvGiven code index block account) _ bs (r .2) in
+    let d = then-done (pinRead code (g .0)) _ bs (g .2) in
+    let f = given-each code index block account (g .0) (g .1) in
+    let s = sized-done 8 block (g .0 .0) (f .0) in
+    let n = account-done account (g .0 .1) (f .1) in
+    let p = read-pin code (g .0) (d .0) (ap length (sym (s .1)) ∙ nibs-length block ∙ (let l = s .0 in omega arith)) (n .0) (d .1) in (
       leb-true 8 room (passed Room901 (leb 8 room) room (r .0) (r .1) .0),
       (
-        inputRow (k .0) (i .0) (d .0),
-        input-sixteen (k .0) (d .0) (i .0) (n .0) (n .1) (rw (j .1) at (leb-true index 6 (j .0))) p,
+        inputRow (g .0 .1) (g .0 .2) (d .0),
+        input-sixteen (g .0 .1) (d .0) (g .0 .2) (n .0) (n .1) (index-small index (g .0 .2) (f .2)) p,
         sym (value-of (d .2)),
       ),
     )
@@ -323,13 +344,10 @@ module _ (e shown : ℕ) (small : shown < 16 ^ 4) where
 pub verdict-nothing : (code index : ℕ) (block account enciphered pvv ws : List ℕ) → pvvVerdict code index block account enciphered pvv ≡ done ws → ws ≡ []
 unfolding pvvVerdict
 verdict-nothing code index block account enciphered pvv ws e =
-    let s = then-done (sized 8 block) _ ws e in
-    let k = then-done (accountOf account) _ ws (s .2) in
-    let i = then-done (keyIndex index) _ ws (k .2) in
-    let m = then-done (sized 8 enciphered) _ ws (i .2) in
+    let g = then-done (pvvGiven code index block account) _ ws e in
+    let m = then-done (sized 8 enciphered) _ ws (g .2) in
     let p = then-done (presented pvv) _ ws (m .2) in
-    let f = then-done (formatOf (codeOf code)) _ ws (p .2) in
-    let d = then-done (readRow (f .0) (accountField (k .0)) (s .0)) _ ws (f .2) in
+    let d = then-done (pinRead code (g .0)) _ ws (p .2) in
     sym (passed Unverified01 (same (pvvOf (m .0)) (p .0)) [] ws (d .2) .1)
 
 pub none-word : 0 ≡ word []

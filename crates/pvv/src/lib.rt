@@ -5,15 +5,12 @@ ghost use Prim.Native.Nat.{_-_, _^_, _<_, _≤_};
 ghost use lib.ListN.{length, take};
 ghost use lib.Dec.{leb};
 ghost use Rattle.nibbles.specs.Nibbles.{word, row, within, same};
-ghost use Rattle.numbers.specs.Numbers.{andThen, unless};
+ghost use Rattle.numbers.specs.Numbers.{unless};
 ghost use Rattle.numbers.specs.Promise.{Does, quietly};
-ghost use Rattle.formats.specs.Formats.{codeOf, formatOf};
-ghost use Rattle.pins.specs.Pins.{accountField};
 ghost use Rattle.pins.specs.Answers.{pinOf, readingOf, rowOf};
-ghost use Rattle.blocks.specs.Blocks.{readRow};
 ghost use Rattle.blocks.specs.Answers.{blockOf, digitsOf};
-ghost use Rattle.pvv.specs.Pvv.{those, pvvOf, inputRow, presented, pvvInput, pvvMade, pvvVerdict};
-ghost use Rattle.pvv.specs.Answers.{Taken};
+ghost use Rattle.pvv.specs.Pvv.{those, pvvOf, inputRow, presented, pvvGiven, pinRead, pvvInput, pvvMade, pvvVerdict};
+ghost use Rattle.pvv.specs.Answers.{givenOf, fieldsRefusal, rowsIn, Taken};
 use alphabet::Class;
 use formats::Chosen;
 use numbers::Refusal;
@@ -21,6 +18,31 @@ use numbers::Reply;
 use pins::Pin;
 use pins::Reading;
 use pins::Row;
+
+// The rows that a call was given, and its key index.
+pub struct Rows {
+    pub block: u64,
+    pub account: u64,
+    pub index: u32,
+}
+
+// Those, or why there are none.
+pub enum Given {
+    Of(Rows),
+    Bad(Refusal),
+}
+
+impl Given {
+    // Why there are none; asked only where there are none.
+    fn refusal(self) -> Refusal
+        ensures { λ r. ⌜ r ≡ fieldsRefusal self ⌝ }
+    {
+        match self {
+            Given::Of(_) => Refusal::Field15,
+            Given::Bad(q) => q,
+        }
+    }
+}
 
 // One nibble more: it goes behind what was taken, less `less`, where it is from low to high and there are not four yet.
 fn step(taken: Pin, n: u64, low: u64, high: u64, less: u64) -> Pin
@@ -92,16 +114,38 @@ fn input_row(account: u64, index: u32, pin: u64) -> u64
     nibbles::join(nibbles::part(account, 1, 11), 11, behind)
 }
 
-// Reads a block in the format of a code: 23, 69, the block.
-fn read_by(format: u32, account: u64, block: u64) -> Reading
-    requires { ⌜ account < 16 ^ 12 ⌝ }
-    ensures { λ r. ⌜ r ≡ readingOf (andThen (formatOf (codeOf format)) (λ f. readRow f (accountField (row 12 account)) (row 16 block))) ⌝ }
+// 15, field by field: block, account and key index.
+fn judged_fields(format: u32, index: u32, block: &[u8], account: &[u8]) -> Given
+    ensures { λ r. ⌜ r ≡ givenOf (pvvGiven format index (now (block .entry)) (now (account .entry))) ⌝ }
+{
+    let sized = pins::sized_row(block, formats::block_width(format));
+    let Row::Held(row) = sized else {
+        return Given::Bad(Refusal::Field15);
+    };
+    let kept = pins::account(account);
+    let Row::Held(digits) = kept else {
+        return Given::Bad(Refusal::Field15);
+    };
+    if !key_index(index) {
+        return Given::Bad(Refusal::Field15);
+    }
+    Given::Of(Rows {
+        block: row,
+        account: digits,
+        index,
+    })
+}
+
+// 23, 69, the block: the PIN.
+fn read_by(format: u32, rows: Rows) -> Reading
+    requires { ⌜ rows .account < 16 ^ 12 ⌝ }
+    ensures { λ r. ⌜ r ≡ readingOf (pinRead format (rowsIn rows)) ⌝ }
 {
     let chosen = Chosen::by(format);
     let Chosen::Of(f) = chosen else {
         return Reading::Bad(chosen.refusal());
     };
-    blocks::read(f, pins::field(account), block)
+    blocks::read(f, pins::field(rows.account), rows.block)
 }
 
 // Judges the call that makes the input: 901, 15 for block, account and index, 23, 69, the block.
@@ -111,22 +155,15 @@ fn judged_input(format: u32, index: u32, block: &[u8], account: &[u8], room: usi
     if room < 8 {
         return Row::Refused(Refusal::Room901);
     }
-    let sized = pins::sized_row(block, formats::block_width(format));
-    let Row::Held(row) = sized else {
-        return Row::Refused(Refusal::Field15);
+    let fields = judged_fields(format, index, block, account);
+    let Given::Of(rows) = fields else {
+        return Row::Refused(fields.refusal());
     };
-    let kept = pins::account(account);
-    let Row::Held(digits) = kept else {
-        return Row::Refused(Refusal::Field15);
-    };
-    if !key_index(index) {
-        return Row::Refused(Refusal::Field15);
-    }
-    let reading = read_by(format, digits, row);
+    let reading = read_by(format, rows);
     let Reading::Got(pin) = reading else {
         return Row::Refused(reading.refusal());
     };
-    Row::Held(input_row(digits, index, pin.digits))
+    Row::Held(input_row(rows.account, rows.index, pin.digits))
 }
 
 // Makes the input that is enciphered under the key of the index.
@@ -187,17 +224,10 @@ fn judged_verdict(
 ) -> Row
     ensures { λ r. ⌜ r ≡ rowOf (pvvVerdict format index (now (block .entry)) (now (account .entry)) (now (enciphered .entry)) (now (pvv .entry))) ⌝ }
 {
-    let sized = pins::sized_row(block, formats::block_width(format));
-    let Row::Held(row) = sized else {
-        return Row::Refused(Refusal::Field15);
+    let fields = judged_fields(format, index, block, account);
+    let Given::Of(rows) = fields else {
+        return Row::Refused(fields.refusal());
     };
-    let kept = pins::account(account);
-    let Row::Held(digits) = kept else {
-        return Row::Refused(Refusal::Field15);
-    };
-    if !key_index(index) {
-        return Row::Refused(Refusal::Field15);
-    }
     let input = pins::sized_row(enciphered, 8);
     let Row::Held(made) = input else {
         return Row::Refused(Refusal::Field15);
@@ -206,7 +236,7 @@ fn judged_verdict(
     let Row::Held(shown) = presented else {
         return Row::Refused(Refusal::Field15);
     };
-    let reading = read_by(format, digits, row);
+    let reading = read_by(format, rows);
     let Reading::Got(_) = reading else {
         return Row::Refused(reading.refusal());
     };

@@ -5,7 +5,6 @@ use borrow.Author.Needs.{needs}
 use Rattle.pvv.proofs.Laws.{call-input, answer-room, answer-says}
 use Rattle.pvv.specs.Pvv.{pvvInput}
 use Rattle.blocks.proofs.Laws.{Blocky}
-use Rattle.nibbles.proofs.Laws.{bytes-below}
 use Rattle.pvv.proofs.pvv_input.Statement.{statement}
 use Rattle.pvv.proofs.pvv_input.Tie as tie
 
@@ -17,7 +16,7 @@ answer-requires c κs =
     let a = c .before .before .before .before .before .args in
     let room = length (a .out .now) in
     let o = pvvInput (a .format) (a .index) (a .block .now) (a .account .now) room in
-    let blocky : Blocky o room = call-input (a .format) (a .index) (a .block .now) (a .account .now) room (bytes-below (a .block .now) (c .before .before .before .before .shared-slice-known .given)) in
+    let blocky : Blocky o room = call-input (a .format) (a .index) (a .block .now) (a .account .now) room in
     answer-room o room blocky _ (c .before .judged-input .ensures)
 
 same-length : tie.Need-same-length
@@ -28,7 +27,7 @@ returns c =
     let a = c .before .before .before .before .before .before .before .before .args in
     let room = length (a .out .now) in
     let o = pvvInput (a .format) (a .index) (a .block .now) (a .account .now) room in
-    let blocky : Blocky o room = call-input (a .format) (a .index) (a .block .now) (a .account .now) room (bytes-below (a .block .now) (c .before .before .before .before .before .before .before .shared-slice-known .given)) in
+    let blocky : Blocky o room = call-input (a .format) (a .index) (a .block .now) (a .account .now) room in
     answer-says o room blocky _ (c .before .before .before .before .judged-input .ensures) (c .before .before .answer .ensures)
 
 pub pvv-input-spec : {M : Type 1} → statement M

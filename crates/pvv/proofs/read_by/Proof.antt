@@ -42,7 +42,7 @@ returns-2 : tie.Need-returns-2
 returns-2 c =
     let a = c .before .before .before .before .before .before .args in
     let f = chosen-of (formatOf (codeOf (a .format))) _ (sym (c .before .before .before .chosen .given .1) ∙ c .before .before .before .before .before .by .ensures) in
-    rw f (c .read .ensures ∙ ap (λ (v : List ℕ). readingOf (readRow (c .before .before .before .chosen .given .0 .0) v (row 16 (a .block)))) (field-row (a .account) (c .before .field .result) (c .before .field .ensures)))
+    rw f (c .read .ensures ∙ ap (λ (v : List ℕ). readingOf (readRow (c .before .before .before .chosen .given .0 .0) v (row 16 (a .rows .block)))) (field-row (a .rows .account) (c .before .field .result) (c .before .field .ensures)))
 
 pub read-by-spec : {M : Type 1} → statement M
 read-by-spec =
