@@ -55,6 +55,7 @@ laid s ks block inputs pins mark at₆ at₁₀ at₁₁ past e₆ e₁₀ e₁�
       table = held .table;
       digits = held .digits;
       validation = held .validation;
+      shape = held .shape;
       check = held .check;
       weak = listed .0;
       trailer = ended .0;

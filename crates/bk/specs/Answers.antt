@@ -13,7 +13,8 @@ use Rattle.pins.specs.Answers.{pinOf}
 use Rattle.fields.specs.Fields.{Stage, read, faulty}
 use Rattle.fields.specs.declared.Fault.{Fault}
 use Rattle.weak.specs.Answers.{Lies}
-use Rattle.stages.specs.Stages.{part}
+use Rattle.validation.specs.Answers.{shapeOf, shapeWidth}
+use Rattle.stages.specs.Stages.{part, validationIn}
 use Rattle.bk.specs.declared.Bk.{Bk}
 use Rattle.bk.specs.declared.BkRead.{BkRead}
 use Rattle.bk.specs.declared.BkRead.the-variants as fields
@@ -39,12 +40,13 @@ abbrev pub refusalIn : Finished → Refusal
 refusalIn (finished.Offset p mark) = Field15
 refusalIn (finished.Bad q) = q
 
--- the places lie in the command, and the table has digits
+-- the places lie in the command, the table has digits, and the shape is that of the validation data
 pub record Placed (s : List ℕ) (p : Bk) : Type 0 where
   pub account : p .offsetting .account + 12 ≤ length s
   pub table : p .offsetting .table + 16 ≤ length s
   pub digits : allOf Digit (part s (p .offsetting .table) 16) ≡ true
-  pub validation : p .offsetting .validation + p .offsetting .width ≤ length s
+  pub validation : p .offsetting .validation + shapeWidth (p .offsetting .shape) ≤ length s
+  pub shape : p .offsetting .shape ≡ shapeOf (validationIn s (p .offsetting))
   pub check : p .offsetting .check ≤ 12
   pub weak : Lies (p .weak) s
   pub trailer : p .trailer ≤ length s

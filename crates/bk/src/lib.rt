@@ -129,8 +129,9 @@ pub fn ask(settings: Settings, command: &[u8], start: Cursor) -> Row
     let data = bk.offsetting;
     let account = digits_at(command, data.account, 12);
     let from = data.validation;
-    let to = from + data.width;
-    validation::validation_row(account, &command[from..to])
+    let shape = data.shape;
+    let to = from + shape.width();
+    shape.row(account, &command[from..to])
 }
 
 // The block, 81, 86: the offset's digits.

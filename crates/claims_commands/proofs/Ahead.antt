@@ -58,7 +58,7 @@ offsetting-ahead first s t at h =
     field-ahead first (number 4 12 Field15) s t at _ _ h
     (λ check n₁. let h₁ = ahead-more at n₁ s t h in field-ahead (first + 1) (run Digit Field15 Field15 12) s t (at + n₁) _ _ h₁
     (λ _ n₂. let h₂ = ahead-more (at + n₁) n₂ s t h₁ in field-ahead (first + 2) (run Digit Field15 Table25 16) s t (at + n₁ + n₂) _ _ h₂
-    (λ _ n₃. field-ahead (first + 3) validationField s t (at + n₁ + n₂ + n₃) _ _ (ahead-more (at + n₁ + n₂) n₃ s t h₂) (λ width n₄. refl))))
+    (λ _ n₃. field-ahead (first + 3) validationField s t (at + n₁ + n₂ + n₃) _ _ (ahead-more (at + n₁ + n₂) n₃ s t h₂) (λ shape n₄. refl))))
 
 -- field 10
 pub weak-ahead : (first mark : ℕ) (s t : List ℕ) (at : ℕ) → Ahead at s t → weak first mark s at ≡ weak first mark t at

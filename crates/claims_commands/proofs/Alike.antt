@@ -15,6 +15,7 @@ use Rattle.fields.specs.Fields.{read, run}
 use Rattle.fields.proofs.Steady.{alike-less, alike-at}
 use Rattle.keys.specs.declared.Use.the-variants.{PinKey, Pvk}
 use Rattle.fields.proofs.Reading.{read-once}
+use Rattle.validation.specs.Answers.{shapeWidth}
 use Rattle.stages.specs.Stages.{accountIn, tableIn, validationIn}
 use Rattle.bk.specs.Bk.{weakMark, bkFields}
 use Rattle.bk.specs.declared.Bk.{Bk}
@@ -98,7 +99,7 @@ module _
     table-alike = ap (λ (cs : List ℕ). map valueOf (take 16 cs)) (from-alike (p .offsetting .table) (places-behind restricted s at p past e .table))
 
     pub validation-alike : validationIn s (p .offsetting) ≡ validationIn t (p .offsetting)
-    validation-alike = ap (take (p .offsetting .width)) (from-alike (p .offsetting .validation) (places-behind restricted s at p past e .validation))
+    validation-alike = ap (take (shapeWidth (p .offsetting .shape))) (from-alike (p .offsetting .validation) (places-behind restricted s at p past e .validation))
 
     pub trailer-alike : drop (p .trailer) s ≡ drop (p .trailer) t
     trailer-alike = from-alike (p .trailer) (places-behind restricted s at p past e .trailer)

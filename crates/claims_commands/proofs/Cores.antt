@@ -2,26 +2,23 @@
 -- Assumes nothing.
 use Prim.Native.Nat.{ℕ, _+_, _≤_, _<_}
 use native.Mathlib.Omega.{arith}
-use mathlib.Core.Path.{_≡_, refl, sym, ap, _∙_, subst}
+use mathlib.Core.Path.{_≡_, refl, sym, ap, _∙_}
 use mathlib.Core.List.{List, [], _∷_, _++_}
 use mathlib.Core.Bool.{Bool, true}
-use lib.ListN.{length, getD, take, drop, replicate, length-replicate, getD-replicate, List·getD-append}
-use lib.Dec.{leb, lit<}
+use lib.ListN.{length, getD, drop, replicate, length-replicate, getD-replicate, List·getD-append}
+use lib.Dec.{lit<}
 use borrow.Author.Tests.{le-leb}
 use Rattle.nibbles.specs.Nibbles.{nibs, packs, xors, every, leading, same}
 use Rattle.alphabet.specs.Alphabet.{allOf, begins, valueOf}
-use Rattle.alphabet.specs.declared.Class.the-variants.{Digit}
-use Rattle.numbers.specs.Numbers.{Outcome, done, refused, andThen, unless, numberOf}
+use Rattle.numbers.specs.Numbers.{Outcome, done, refused, andThen, numberOf}
 use Rattle.numbers.specs.Promise.{Said, Does, quietly}
 use Rattle.numbers.specs.declared.Refusal.{Refusal}
-use Rattle.numbers.specs.declared.Refusal.the-variants.{Field15, Table25}
-use Rattle.numbers.proofs.Laws.{then-done, passed}
 use Rattle.numbers.specs.declared.Reply.{Reply}
 use Rattle.settings.specs.Settings.{usually}
 use Rattle.settings.specs.declared.Settings.{Settings}
 use Rattle.formats.specs.Formats.{codeOf}
 use Rattle.blocks.specs.Blocks.{contents, readRow}
-use Rattle.validation.specs.Validation.{isValidation, validationRow}
+use Rattle.validation.specs.Validation.{validationRow}
 use Rattle.validation.proofs.Laws.{row-of-valid}
 use Rattle.ibm3624.specs.Ibm3624.{differences}
 use Rattle.offsets.specs.Offsets.{pinWithNatural}
@@ -33,10 +30,10 @@ use Rattle.fields.specs.Fields.{Stage, read, faulty, outcome, run, number, trai
 use Rattle.keys.specs.Keys.{keyType, hexKey, lettered, key, lmkField}
 use Rattle.weak.specs.Weak.{weakField, entries, isOn}
 use Rattle.keybox.specs.KeyBox.{boxed}
-use Rattle.stages.specs.Stages.{keys, formatField, sealed, validationWidth, validationField, offsetting, weak, accountIn, validationIn}
+use Rattle.validation.specs.Answers.{shapeOf}
+use Rattle.stages.proofs.Laws.{offsetting-held}
+use Rattle.stages.specs.Stages.{keys, formatField, sealed, validationField, offsetting, weak, accountIn, validationIn}
 use Rattle.endings.specs.Endings.{end}
-use Rattle.stages.specs.declared.Offsetting.{Offsetting}
-use Rattle.fields.proofs.Reading.{field-read, read-once}
 use Rattle.bk.specs.Bk.{bkFields, bkAsk, bkFinish, bkAnswer}
 use Rattle.bk.specs.declared.Bk as bk
 use Rattle.commands.specs.Commands.{askBy, answerBy, commanded, responding, silently, asked, answered}
@@ -86,7 +83,7 @@ answer-room settings g h s block enciphered room k = rw (le-leb 65 room k)
 
 -- computed: the block of each account
 asks-said : (before : List ℕ) → 8 ≤ length before → (asks usualAccount before ≡ blockWith 0x56) × (asks otherAccount before ≡ blockWith 0x57)
-unfolding packs leading allOf begins valueOf codeOf isFramed run number trailer keyType hexKey lettered key lmkField weakField keys formatField sealed validationField offsetting weak end bkFields
+unfolding packs leading allOf begins valueOf codeOf isFramed run number trailer keyType hexKey lettered key lmkField weakField keys formatField sealed shapeOf validationField offsetting weak end bkFields
     validationRow bkAsk askBy asked
 asks-said before h =
     (ap quietly (ask-room usually (commandOf usualAccount) (length before) h) ∙ refl, ap quietly (ask-room usually (commandOf otherAccount) (length before) h) ∙ refl)
@@ -95,7 +92,7 @@ asks-said before h =
 answers-said : (before : List ℕ) → 65 ≤ length before
     → (answers encipheredP9 before ≡ response (0x39 ∷ 0x32 ∷ 0x34 ∷ 0x37 ∷ [])) × (answers encipheredZeros before ≡ response (0x34 ∷ 0x35 ∷ 0x36 ∷ 0x37 ∷ []))
 unfolding nibs xors every leading same allOf begins valueOf codeOf isFramed opening run number trailer keyType hexKey lettered key lmkField weakField entries isOn keys formatField sealed
-    validationField offsetting weak end boxed bkFields contents readRow pinWithNatural differences bkFinish bkAnswer answerBy answered
+    shapeOf validationField offsetting weak end boxed bkFields contents readRow pinWithNatural differences bkFinish bkAnswer answerBy answered
 answers-said before h = (
   answer-room usually true true (commandOf usualAccount) blockP2 encipheredP9 (length before) h ∙ refl,
   answer-room usually true true (commandOf usualAccount) blockP2 encipheredZeros (length before) h ∙ refl,
@@ -125,25 +122,6 @@ papers-exchange = (λ before h. asks-said before h .0, λ before h. answers-said
 
 -- ---- the reading of the fields
 
--- validation data that were found are validation data
-valid-found : (cs : List ℕ) (width n : ℕ) → validationField cs ≡ done (width, n) → isValidation (take width cs) ≡ true
-unfolding validationField
-valid-found cs width n e =
-    let fits = then-done (unless Field15 (leb (validationWidth cs) (length cs)) (validationWidth cs)) _ (width, n) e in
-    let whole = passed Field15 (isValidation (take (fits .0) cs)) (fits .0, fits .0) (width, n) (fits .2) in
-    subst (λ (w : ℕ). isValidation (take w cs) ≡ true) (ap (λ (r : ℕ × ℕ). r .0) (whole .1)) (whole .0)
-
--- so field 9 of a command that was read has them
-valid-held : (first : ℕ) (s : List ℕ) (at : ℕ) (o : Offsetting) (next : ℕ) → offsetting first s at ≡ read o next → isValidation (take (o .width) (drop (o .validation) s)) ≡ true
-unfolding offsetting
-valid-held first s at o next e =
-    let f₁ = field-read first (number 4 12 Field15) s at _ o next e in
-    let f₂ = field-read (first + 1) (run Digit Field15 Field15 12) s (at + f₁ .1) _ o next (f₁ .3) in
-    let f₃ = field-read (first + 2) (run Digit Field15 Table25 16) s (at + f₁ .1 + f₂ .1) _ o next (f₂ .3) in
-    let f₄ = field-read (first + 3) validationField s (at + f₁ .1 + f₂ .1 + f₃ .1) _ o next (f₃ .3) in
-    subst (λ (x : Offsetting). isValidation (take (x .width) (drop (x .validation) s)) ≡ true) (read-once (f₄ .3) .0)
-    (valid-found (drop (at + f₁ .1 + f₂ .1 + f₃ .1) s) (f₄ .0) (f₄ .1) (f₄ .2))
-
 refusal-of : {A : Type 0} {p q : Refusal} → _≡_ {A = Outcome A} (refused p) (refused q) → p ≡ q
 refusal-of e = cc
 
@@ -160,7 +138,7 @@ fields-refuse settings s at q = by-fields (bkFields (settings .restricted) s at)
         → andThen (outcome stage) (λ p. andThen (validationRow (accountIn s (p .offsetting)) (validationIn s (p .offsetting))) (λ ns. done (packs ns))) ≡ refused q → outcome stage ≡ refused q
     by-fields (read p past) f e =
         let h = staged (settings .restricted) s at p past f in
-        let row = row-of-valid (accountIn s (p .offsetting)) (validationIn s (p .offsetting)) (valid-held 6 s (h .at₆) (p .offsetting) (h .at₁₀) (h .measured)) in
+        let row = row-of-valid (accountIn s (p .offsetting)) (validationIn s (p .offsetting)) (offsetting-held 6 s (h .at₆) (p .offsetting) (h .at₁₀) (h .measured) .valid) in
         absurd (not-refused (rw (row .1) at e))
     by-fields (faulty f) _ e = ap refused (refusal-of e)
 

@@ -17,6 +17,7 @@ use Rattle.formats.specs.Formats.{codeOf, formatOf}
 use Rattle.formats.specs.declared.Code.{Code}
 use Rattle.formats.specs.declared.Code.the-variants.{Built, Known, Unknown}
 use Rattle.validation.specs.Validation.{isValidation}
+use Rattle.validation.specs.Answers.{shapeOf}
 use Rattle.fields.specs.Fields.{Found, Stage, read, faulty, run, number, twoDigits, marked, behind, trailerMark, longestTrailer, atMost, trailer, fielded, onward, outcome}
 use Rattle.fields.specs.declared.Fault.{Fault}
 use Rattle.keys.specs.Keys.{type001, type002, typeFFF, keyType, hexKey, saidLength, blockLength, permits, keyBlock, lettered, key, lmkField, present}
@@ -147,7 +148,7 @@ validation-gives : (cs : List ℕ) → Only OfFields (validationField cs)
 unfolding validationField
 validation-gives cs =
     then-only OfFields (unless Field15 (leb (validationWidth cs) (length cs)) (validationWidth cs)) _ (test-only OfFields Field15 refl (leb (validationWidth cs) (length cs)) (validationWidth cs))
-    (λ n. test-only OfFields Field15 refl (isValidation (take n cs)) (n, n))
+    (λ n. test-only OfFields Field15 refl (isValidation (take n cs)) (shapeOf (take n cs), n))
 
 -- 15 for the length of the weak PINs, 03 for their list
 list-gives : (at count : ℕ) (cs : List ℕ) → Only OfFields (list.listed at count cs)
@@ -207,7 +208,7 @@ offsetting-gives first s at =
     (λ check account. fielded-only OfFields (first + 1) account (run Digit Field15 Field15 12 (drop account s)) _ (run-only OfFields Digit Field15 Field15 refl refl 12 (drop account s))
     (λ _ table. fielded-only OfFields (first + 2) table (run Digit Field15 Table25 16 (drop table s)) _ (run-only OfFields Digit Field15 Table25 refl refl 16 (drop table s))
     (λ _ validation. fielded-only OfFields (first + 3) validation (validationField (drop validation s)) _ (validation-gives (drop validation s))
-    (λ width next. done-only OfFields _))))
+    (λ shape next. done-only OfFields _))))
 
 listing-gives : (first mark : ℕ) (s : List ℕ) (at : ℕ) → Only OfFields (outcome (weak first mark s at))
 unfolding weak

@@ -18,6 +18,7 @@ use Rattle.keys.specs.declared.Use.the-variants.{PinKey, Pvk}
 use Rattle.weak.specs.Weak.{weakField}
 use Rattle.weak.specs.declared.Weak.{Weak}
 use Rattle.weak.proofs.Laws.{Tells, unmarked, empty, filled, weak-tells}
+use Rattle.validation.specs.declared.Shape.{Shape}
 use Rattle.stages.specs.Stages.{keys, sealed, formatField, offsetting, validationField, weak}
 use Rattle.endings.specs.Endings.{end, allAgree}
 use Rattle.stages.specs.declared.Keys.{Keys}
@@ -110,13 +111,13 @@ offsetting-onward first s at o next e =
     let f₂ = field-read (first + 1) (run Digit Field15 Field15 12) s (at + f₁ .1) _ o next (f₁ .3) in
     let f₃ = field-read (first + 2) (run Digit Field15 Table25 16) s (at + f₁ .1 + f₂ .1) _ o next (f₂ .3) in
     let f₄ = field-read (first + 3) validationField s (at + f₁ .1 + f₂ .1 + f₃ .1) _ o next (f₃ .3) in
-    from (f₁ .0) (f₄ .0) (f₁ .1) (f₂ .1) (f₃ .1) (f₄ .1) (f₄ .3)
+    from (f₁ .0) (f₁ .1) (f₂ .1) (f₃ .1) (f₄ .1) (f₄ .0) (f₄ .3)
   where
     from :
-        (check width n₁ n₂ n₃ n₄ : ℕ)
-        → read (record { check = check; account = at + n₁; table = at + n₁ + n₂; validation = at + n₁ + n₂ + n₃; width = width }) (at + n₁ + n₂ + n₃ + n₄) ≡ read o next
+        (check n₁ n₂ n₃ n₄ : ℕ) (x : Shape)
+        → read (record { check = check; account = at + n₁; table = at + n₁ + n₂; validation = at + n₁ + n₂ + n₃; shape = x }) (at + n₁ + n₂ + n₃ + n₄) ≡ read o next
         → Further at o next
-    from check width n₁ n₂ n₃ n₄ e =
+    from check n₁ n₂ n₃ n₄ x e =
         let r = read-once e in
         let a : at + n₁ ≡ o .account = ap (λ (y : Offsetting). y .account) (r .0) in
         let t : at + n₁ + n₂ ≡ o .table = ap (λ (y : Offsetting). y .table) (r .0) in

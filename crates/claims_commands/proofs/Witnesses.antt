@@ -25,6 +25,8 @@ use Rattle.keys.specs.Keys.{keyType, hexKey, lettered, key, lmkField}
 use Rattle.weak.specs.Weak.{noneAt, listed, weakField, entries, isOn}
 use Rattle.weak.specs.declared.Weak.{Weak}
 use Rattle.keybox.specs.KeyBox.{boxed}
+use Rattle.validation.specs.Answers.{shapeOf}
+use Rattle.validation.specs.declared.Shape.the-variants.{Template}
 use Rattle.stages.specs.Stages.{keys, formatField, sealed, validationField, offsetting, weak, accountIn, tableIn}
 use Rattle.endings.specs.Endings.{end}
 use Rattle.bk.specs.Bk.{bkFields, bkFinish, bkAnswer}
@@ -37,7 +39,7 @@ use Rattle.claims_commands.specs.Witnesses.{command, Run, runP9, runP10,
 abbrev fields : ℕ → Weak → Bk
 fields mark listed = record {
   sealed = record { block = 75; format = F01 };
-  offsetting = record { check = 4; account = 95; table = 107; validation = 123; width = 12 };
+  offsetting = record { check = 4; account = 95; table = 107; validation = 123; shape = Template 11 };
   weak = listed;
   trailer = mark;
 }
@@ -115,7 +117,7 @@ differ : (pin pin′ : List ℕ) → getD pin 4 0 ≡ 7 → getD pin′ 4 0 ≡ 
 differ pin pin′ h k e = omega (arith, ap (λ (ds : List ℕ). getD ds 4 0) e)
 
 pub assumptions-met : AssumptionsMet
-unfolding nibs xors every leading same allOf begins valueOf formats.codeOf contents readRow differences pinWithNatural isFramed opening run number trailer keyType hexKey lettered key lmkField listed weakField entries isOn keys formatField sealed validationField offsetting weak end boxed bkFields bkFinish bkAnswer answerBy answered reading meets
+unfolding nibs xors every leading same allOf begins valueOf formats.codeOf contents readRow differences pinWithNatural isFramed opening run number trailer keyType hexKey lettered key lmkField listed weakField entries isOn keys formatField sealed shapeOf validationField offsetting weak end boxed bkFields bkFinish bkAnswer answerBy answered reading meets
 assumptions-met = (
   (
     meets usually 4 [] none runP9 runP10 pinP9 pinP10 (refl, refl, refl, refl, refl) (refl, refl, refl, refl, refl) (refl, refl, refl, refl, refl) (differ (pinP9 .0) (pinP10 .0) refl refl),

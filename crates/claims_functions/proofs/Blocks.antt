@@ -23,7 +23,8 @@ translation-once = record {
 pub validation-once : ValidationSettled
 validation-once = record {
   Shape·of = λ κs a r r′ ends ends′. settled;
-  validation-row = λ κs a r r′ ends ends′. settled;
+  Shape·width = λ κs a r r′ ends ends′. settled;
+  Shape·row = λ κs a r r′ ends ends′. settled;
   validation-block = λ κs a r r′ ends ends′. answered 2;
 }
 

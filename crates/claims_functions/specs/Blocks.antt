@@ -28,7 +28,8 @@ pub record TranslationSettled : Type 0 where
 -- every public function of validation
 pub record ValidationSettled : Type 0 where
   pub Shape·of : Settled Validation.Shape.of.ended Validation.Shape.of.Reads.Learnt
-  pub validation-row : Settled Validation.validation_row.ended Validation.validation_row.Reads.Learnt
+  pub Shape·width : Settled Validation.Shape.width.ended Validation.Shape.width.Reads.Learnt
+  pub Shape·row : Settled Validation.Shape.row.ended Validation.Shape.row.Reads.Learnt
   pub validation-block : Settled Validation.validation_block.ended Validation.validation_block.Reads.Learnt
 
 -- every public function of ibm3624

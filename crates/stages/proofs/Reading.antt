@@ -8,19 +8,20 @@ use mathlib.Core.Bool.{Bool, true, false, cond}
 use lib.ListN.{length, take, drop, length-drop}
 use lib.Dec.{leb}
 use borrow.Author.Tests.{lt-leb, le-leb}
-use Rattle.numbers.specs.Numbers.{done, refused}
+use Rattle.numbers.specs.Numbers.{done, refused, andThen, unless}
 use Rattle.numbers.specs.declared.Refusal.{Refusal}
 use Rattle.numbers.specs.declared.Refusal.the-variants.{Field15}
 use Rattle.formats.specs.declared.Format.{Format}
 use Rattle.fields.specs.Fields.{Found, Stage, read, faulty, marked}
-use Rattle.fields.specs.Answers.{cursorAt, valueFrom}
+use Rattle.fields.specs.Answers.{cursorAt}
 use Rattle.fields.specs.declared.Cursor.{Cursor}
 use Rattle.fields.specs.declared.Fault.{Fault}
-use Rattle.fields.specs.declared.Value.the-variants as value
 use Rattle.validation.specs.Validation.{isValidation}
+use Rattle.validation.specs.Answers.{shapeOf}
+use Rattle.validation.specs.declared.Shape.{Shape}
 use Rattle.weak.specs.declared.Weak.{Weak}
 use Rattle.stages.specs.Stages.{validationWidth, validationField}
-use Rattle.stages.specs.Answers.{formatRead, keysRead, sealedRead, offsettingRead, weakStage}
+use Rattle.stages.specs.Answers.{formatRead, shapeRead, keysRead, sealedRead, offsettingRead, weakStage}
 use Rattle.stages.specs.declared.Keys.{Keys}
 use Rattle.stages.specs.declared.Sealed.{Sealed}
 use Rattle.stages.specs.declared.Offsetting.{Offsetting}
@@ -28,6 +29,7 @@ use Rattle.stages.specs.declared.KeysRead.the-variants as keyed
 use Rattle.stages.specs.declared.SealedRead.the-variants as blocked
 use Rattle.stages.specs.declared.OffsettingRead.the-variants as data-read
 use Rattle.stages.specs.declared.WeakStage.the-variants as listed
+use Rattle.stages.specs.declared.ShapeRead.the-variants as shape
 use Rattle.stages.specs.declared.FormatRead.the-variants.{Got, Bad}
 
 -- ---- behind the answer for a format
@@ -42,6 +44,15 @@ pub format-bad : (at : ℕ) (o : Found Format) (q : Refusal) → Bad q ≡ forma
 format-bad at (done r) q e = absurd (let z : _≡_ {A = ℕ} 0 1 = cc in omega arith)
 format-bad at (refused p) q e = cc
 
+-- so with the shape of validation data
+pub shape-found : (at : ℕ) (o : Found Shape) (x : Shape) (c : Cursor) → shape.Got x c ≡ shapeRead at o → (n : ℕ) × (o ≡ done (x, n)) × (c ≡ cursorAt (at + n))
+shape-found at (done (y, n)) x c e = (n, cc, cc)
+shape-found at (refused q) x c e = absurd (let z : _≡_ {A = ℕ} 0 1 = cc in omega arith)
+
+pub shape-bad : (at : ℕ) (o : Found Shape) (q : Refusal) → shape.Bad q ≡ shapeRead at o → o ≡ refused q
+shape-bad at (done r) q e = absurd (let z : _≡_ {A = ℕ} 0 1 = cc in omega arith)
+shape-bad at (refused p) q e = cc
+
 -- ---- validation data
 
 -- they have 12 characters or 17
@@ -54,7 +65,7 @@ width-bounds cs = by-mark (marked 0x50 cs) where
 -- what the code's answer tells of them
 
 module _ (s : List ℕ) (at width : ℕ) (w : width ≡ validationWidth (drop at s)) where
-  pub validation-short : length s - at < width → value.Bad Field15 ≡ valueFrom at (validationField (drop at s))
+  pub validation-short : length s - at < width → shape.Bad Field15 ≡ shapeRead at (validationField (drop at s))
   unfolding validationField
   validation-short h = rw (lt-leb (validationWidth (drop at s)) (length (drop at s)) (omega (arith, w, length-drop at s)))
 
@@ -68,13 +79,27 @@ module _ (s : List ℕ) (at width : ℕ) (w : width ≡ validationWidth (drop at
     part : take (at + width - at) (drop at s) ≡ take (validationWidth (drop at s)) (drop at s)
     part = ap (λ (n : ℕ). take n (drop at s)) exact
 
-    pub validation-whole : isValidation (take (at + width - at) (drop at s)) ≡ true → value.Got width (cursorAt (at + width)) ≡ valueFrom at (validationField (drop at s))
+    pub validation-whole : (x : Shape) → x ≡ shapeOf (take (at + width - at) (drop at s)) → isValidation (take (at + width - at) (drop at s)) ≡ true
+        → shape.Got x (cursorAt (at + width)) ≡ shapeRead at (validationField (drop at s))
     unfolding validationField
-    validation-whole e = rw (fits, ap isValidation (sym part) ∙ e, w)
+    validation-whole x d e = rw (fits, ap isValidation (sym part) ∙ e, w, d ∙ ap shapeOf part)
 
-    pub validation-wrong : isValidation (take (at + width - at) (drop at s)) ≡ false → value.Bad Field15 ≡ valueFrom at (validationField (drop at s))
+    pub validation-wrong : isValidation (take (at + width - at) (drop at s)) ≡ false → shape.Bad Field15 ≡ shapeRead at (validationField (drop at s))
     unfolding validationField
     validation-wrong e = rw (fits, ap isValidation (sym part) ∙ e)
+
+-- they are refused with 15
+pub validation-refuses : (cs : List ℕ) (q : Refusal) → validationField cs ≡ refused q → q ≡ Field15
+unfolding validationField
+validation-refuses cs q e = go (leb (validationWidth cs) (length cs)) e
+  where
+    wrong : {A : Type 0} (valid : Bool) (a : A) → unless Field15 valid a ≡ refused q → q ≡ Field15
+    wrong true a e = absurd (let z : _≡_ {A = ℕ} 0 1 = cc in omega arith)
+    wrong false a e = cc
+
+    go : (room : Bool) → andThen {B = Shape × ℕ} (unless Field15 room (validationWidth cs)) (λ n. unless Field15 (isValidation (take n cs)) (shapeOf (take n cs), n)) ≡ refused q → q ≡ Field15
+    go true e = wrong (isValidation (take (validationWidth cs) cs)) (shapeOf (take (validationWidth cs) cs), validationWidth cs) e
+    go false e = cc
 
 -- ---- behind a stage's answer: what was read, and where the next stage begins; or the fault
 

@@ -4,9 +4,8 @@ use Prim.Native.Nat.{ℕ, _+_, _≤_}
 use native.Mathlib.Omega.{arith}
 use mathlib.Core.Path.{_≡_, sym, ap, _∙_}
 use mathlib.Core.List.{List}
-use mathlib.Core.Bool.{Bool, true, cond}
+use mathlib.Core.Bool.{Bool, cond}
 use lib.ListN.{length, take}
-use lib.Dec.{leb}
 use borrow.Author.Tests.{le-leb}
 use Rattle.numbers.specs.Numbers.{done, andThen, unless}
 use Rattle.numbers.specs.declared.Refusal.the-variants.{Field15, NotHere69}
@@ -19,6 +18,9 @@ use Rattle.fields.specs.Steady.{Steady}
 use Rattle.fields.proofs.Steady.{number-steady, alike-less, alike-room, alike-marked}
 use Rattle.stages.specs.Stages.{allows, formatField, validationWidth, validationField}
 use Rattle.stages.proofs.Laws.{validation-found}
+use Rattle.stages.proofs.Reading.{width-bounds}
+use Rattle.validation.specs.Answers.{shapeOf}
+use Rattle.validation.specs.declared.Shape.{Shape}
 
 -- ---- the format
 
@@ -52,25 +54,15 @@ format-steady restricted = record { onward = onward; passed = same; ahead = λ s
 
 -- ---- the validation data
 
--- those that were found have their width, and are whole
-width-found : (cs : List ℕ) (v n : ℕ) → validationField cs ≡ done (v, n) → (validationWidth cs ≡ n) × (isValidation (take n cs) ≡ true)
-unfolding validationField
-width-found cs v n e =
-    let first = then-done (unless Field15 (leb (validationWidth cs) (length cs)) (validationWidth cs)) _ (v, n) e in
-    let fits = passed Field15 (leb (validationWidth cs) (length cs)) (validationWidth cs) (first .0) (first .1) in
-    let whole = passed Field15 (isValidation (take (first .0) cs)) (first .0, first .0) (v, n) (first .2) in
-    let m : first .0 ≡ n = ap (λ (r : ℕ × ℕ). r .1) (whole .1) in
-    (fits .1 ∙ m, ap (λ (k : ℕ). isValidation (take k cs)) (sym m) ∙ whole .0)
-
 -- their width looks at the first character only, which is one of theirs
 pub validation-steady : Steady 0 validationField
 unfolding validationField
-validation-steady = record { onward = λ cs v n e. validation-found cs v n e .3; passed = same; ahead = λ s t at e. ap validationField e }
+validation-steady = record { onward = λ cs x n e. validation-found cs x n e .1; passed = same; ahead = λ s t at e. ap validationField e }
   where
-    same : (cs ds : List ℕ) (v n : ℕ) → validationField cs ≡ done (v, n) → take (n + 0) ds ≡ take (n + 0) cs → validationField ds ≡ done (v, n)
-    same cs ds v n e t =
-        let f = validation-found cs v n e in
-        let w = width-found cs v n e in
+    same : (cs ds : List ℕ) (x : Shape) (n : ℕ) → validationField cs ≡ done (x, n) → take (n + 0) ds ≡ take (n + 0) cs → validationField ds ≡ done (x, n)
+    same cs ds x n e t =
+        let f = validation-found cs x n e in
+        let some = width-bounds cs in
         let alike : take n ds ≡ take n cs = alike-less cs ds n (n + 0) (omega arith) t in
-        let width : validationWidth ds ≡ n = ap (λ (b : Bool). cond b 17 12) (alike-marked letterP cs ds n (omega arith) alike) ∙ w .0 in
-        rw (width, le-leb n (length ds) (alike-room cs ds n alike (f .3)), ap isValidation alike ∙ w .1) (ap (λ (k : ℕ). done (k, n)) (sym (f .0)))
+        let width : validationWidth ds ≡ n = ap (λ (b : Bool). cond b 17 12) (alike-marked letterP cs ds n (omega (arith, f .0)) alike) ∙ f .0 in
+        rw (width, le-leb n (length ds) (alike-room cs ds n alike (f .1)), ap isValidation alike ∙ f .2) (ap (λ (y : Shape). done (y, n)) (ap shapeOf alike ∙ sym (f .3)))

@@ -4,6 +4,7 @@ use Rattle.numbers.specs.Numbers.{done, refused}
 use Rattle.numbers.specs.declared.Refusal.{Refusal}
 use Rattle.numbers.specs.declared.Refusal.the-variants.{NotHere69}
 use Rattle.formats.specs.declared.Format.{Format}
+use Rattle.validation.specs.declared.Shape.{Shape}
 use Rattle.fields.specs.Fields.{Found, Stage, read, faulty}
 use Rattle.fields.specs.Answers.{cursorAt, noFault}
 use Rattle.fields.specs.declared.Fault.{Fault}
@@ -13,6 +14,8 @@ use Rattle.stages.specs.declared.Sealed.{Sealed}
 use Rattle.stages.specs.declared.Offsetting.{Offsetting}
 use Rattle.stages.specs.declared.FormatRead.{FormatRead}
 use Rattle.stages.specs.declared.FormatRead.the-variants as format
+use Rattle.stages.specs.declared.ShapeRead.{ShapeRead}
+use Rattle.stages.specs.declared.ShapeRead.the-variants as shape
 use Rattle.stages.specs.declared.KeysRead.{KeysRead}
 use Rattle.stages.specs.declared.KeysRead.the-variants as keys
 use Rattle.stages.specs.declared.SealedRead.{SealedRead}
@@ -67,3 +70,9 @@ formatRead at (refused q) = format.Bad q
 abbrev pub formatRefusal : FormatRead → Refusal
 formatRefusal (format.Got f c) = NotHere69
 formatRefusal (format.Bad q) = q
+
+-- ---- the validation data's field
+
+abbrev pub shapeRead : ℕ → Found Shape → ShapeRead
+shapeRead at (done r) = shape.Got (r .0) (cursorAt (at + r .1))
+shapeRead at (refused q) = shape.Bad q

@@ -11,6 +11,8 @@ use Rattle.numbers.specs.declared.Refusal.the-variants.{Field15, Table25, NotHe
 use Rattle.formats.specs.Formats.{codeOf, formatOf, is01or47}
 use Rattle.formats.specs.declared.Format.{Format}
 use Rattle.validation.specs.Validation.{letterP, isValidation}
+use Rattle.validation.specs.Answers.{shapeOf, shapeWidth}
+use Rattle.validation.specs.declared.Shape.{Shape}
 use Rattle.fields.specs.Fields.{Found, Stage, read, field, run, number, marked}
 use Rattle.keys.specs.Keys.{keyType, key}
 use Rattle.keys.specs.declared.Use.{Use}
@@ -56,10 +58,11 @@ sealed first restricted s block =
 abbrev pub validationWidth : List ℕ → ℕ
 validationWidth cs = cond (marked letterP cs) 17 12
 
-unfoldable pub validationField : List ℕ → Found ℕ
+-- what is read is their shape, with the place of the N
+unfoldable pub validationField : List ℕ → Found Shape
 validationField cs =
     andThen (unless Field15 (leb (validationWidth cs) (length cs)) (validationWidth cs))
-    (λ n. unless Field15 (isValidation (take n cs)) (n, n))
+    (λ n. unless Field15 (isValidation (take n cs)) (shapeOf (take n cs), n))
 
 -- "6. Check length, 04 to 12"; "7. Account, 12 digits"; "8. Decimalisation table, 16 digits. Characters missing at the end of the
 -- command give 15", a non-digit 25; "9. Validation data"
@@ -69,7 +72,7 @@ offsetting first s at =
     (λ check accountAt. field (first + 1) (run Digit Field15 Field15 12) s accountAt
     (λ _ tableAt. field (first + 2) (run Digit Field15 Table25 16) s tableAt
     (λ _ dataAt. field (first + 3) validationField s dataAt
-    (λ width next. read (record { check = check; account = accountAt; table = tableAt; validation = dataAt; width = width }) next))))
+    (λ shape next. read (record { check = check; account = accountAt; table = tableAt; validation = dataAt; shape = shape }) next))))
 
 -- n characters from a place
 abbrev pub part : List ℕ → ℕ → ℕ → List ℕ
@@ -83,7 +86,7 @@ abbrev pub tableIn : List ℕ → Offsetting → List ℕ
 tableIn s o = map valueOf (part s (o .table) 16)
 
 abbrev pub validationIn : List ℕ → Offsetting → List ℕ
-validationIn s o = part s (o .validation) (o .width)
+validationIn s o = part s (o .validation) (shapeWidth (o .shape))
 
 -- ---- Weak: the weak list
 

@@ -5,7 +5,7 @@ ghost use Prim.Native.Nat.{_≤_};
 ghost use lib.ListN.{drop};
 ghost use Rattle.fields.specs.Answers.{valueFrom};
 ghost use Rattle.stages.specs.Stages.{keys, allows, formatField, sealed, validationWidth, validationField, offsetting, weak};
-ghost use Rattle.stages.specs.Answers.{keysRead, keysFault, sealedRead, sealedFault, offsettingRead, offsettingFault, weakStage, weakFault, formatRead, formatRefusal};
+ghost use Rattle.stages.specs.Answers.{keysRead, keysFault, sealedRead, sealedFault, offsettingRead, offsettingFault, weakStage, weakFault, formatRead, formatRefusal, shapeRead};
 use alphabet::Class;
 use fields::Cursor;
 use fields::Fault;
@@ -36,13 +36,13 @@ pub struct Sealed {
     pub format: Format,
 }
 
-// The check length, and where account, table and validation data stand; the validation data have a width.
+// The check length, and where account, table and validation data stand; the validation data have a shape.
 pub struct Offsetting {
     pub check: usize,
     pub account: usize,
     pub table: usize,
     pub validation: usize,
-    pub width: usize,
+    pub shape: Shape,
 }
 
 pub enum KeysRead {
@@ -67,6 +67,11 @@ pub enum WeakStage {
 
 pub enum FormatRead {
     Got(Format, Cursor),
+    Bad(Refusal),
+}
+
+pub enum ShapeRead {
+    Got(Shape, Cursor),
     Bad(Refusal),
 }
 
@@ -215,19 +220,20 @@ fn validation_width(cursor: Cursor, command: &[u8]) -> usize
     17
 }
 
-fn validation_field(cursor: Cursor, command: &[u8]) -> Value
-    ensures { λ r. ⌜ r ≡ valueFrom (cursor .at) (validationField (drop (cursor .at) (now (command .entry)))) ⌝ }
+fn validation_field(cursor: Cursor, command: &[u8]) -> ShapeRead
+    ensures { λ r. ⌜ r ≡ shapeRead (cursor .at) (validationField (drop (cursor .at) (now (command .entry)))) ⌝ }
 {
     let at = cursor.at;
     let width = validation_width(cursor, command);
     if alphabet::ahead(command, at) < width {
-        return Value::Bad(Refusal::Field15);
+        return ShapeRead::Bad(Refusal::Field15);
     }
     let to = at + width;
-    match Shape::of(&command[at..to]) {
-        Shape::Template(_) => Value::Got(width, Cursor { at: to }),
-        Shape::Whole => Value::Got(width, Cursor { at: to }),
-        Shape::Neither => Value::Bad(Refusal::Field15),
+    let shape = Shape::of(&command[at..to]);
+    match shape {
+        Shape::Template(_) => ShapeRead::Got(shape, Cursor { at: to }),
+        Shape::Whole => ShapeRead::Got(shape, Cursor { at: to }),
+        Shape::Neither => ShapeRead::Bad(Refusal::Field15),
     }
 }
 
@@ -250,15 +256,15 @@ pub fn read_offsetting(command: &[u8], start: Cursor, field: usize) -> Offsettin
         return OffsettingRead::Bad(fields::fault_at(decimals.refusal(), field + 2, table));
     };
     let shaped = validation_field(validation, command);
-    let Value::Got(width, next) = shaped else {
-        return OffsettingRead::Bad(fields::fault_at(shaped.refusal(), field + 3, validation));
+    let ShapeRead::Got(shape, next) = shaped else {
+        return OffsettingRead::Bad(fields::fault_at(Refusal::Field15, field + 3, validation));
     };
     let offsetting = Offsetting {
         check,
         account: account.at,
         table: table.at,
         validation: validation.at,
-        width,
+        shape,
     };
     OffsettingRead::Got(offsetting, next)
 }

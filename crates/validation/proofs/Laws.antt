@@ -24,7 +24,7 @@ use Rattle.pins.proofs.Laws.{account-done}
 use Rattle.blocks.specs.Answers.{blockOf}
 use Rattle.blocks.proofs.Laws.{Sixteen, sixteen-nibs}
 use Rattle.validation.specs.Validation.{letterP, letterN, hexEnd, isTemplate, replaced, isWhole, isValidation, validationRow, validationBlock}
-use Rattle.validation.specs.Answers.{shapeOf}
+use Rattle.validation.specs.Answers.{shapeOf, shapeWidth}
 use Rattle.validation.specs.declared.Shape.{Shape}
 use Rattle.validation.specs.declared.Shape.the-variants.{Template, Whole, Neither}
 
@@ -151,6 +151,15 @@ shape-twelve cs at e = subst (Measured cs) e (measured cs)
 -- the P stands before sixteen
 pub shape-seventeen : (cs : List ℕ) → shapeOf cs ≡ Whole → length cs ≡ 17
 shape-seventeen cs e = subst (Measured cs) e (measured cs)
+
+-- validation data are as long as their shape is wide
+pub shape-long : (cs : List ℕ) → isValidation cs ≡ true → shapeWidth (shapeOf cs) ≡ length cs
+shape-long cs e = go (shapeOf cs) (measured cs) (sym (formed-valid cs) ∙ e)
+  where
+    go : (s : Shape) → Measured cs s → formed s ≡ true → shapeWidth s ≡ length cs
+    go (Template at) m f = sym (m .0)
+    go Whole m f = sym m
+    go Neither m f = absurd (let z : _≡_ {A = ℕ} 0 1 = cc in omega arith)
 
 -- ---- the row that validation data stand for
 

@@ -14,3 +14,9 @@ shapeOf cs =
     cond (eqb (getD cs 0 0) letterP)
     (cond (isWhole cs) Whole Neither)
     (cond (isTemplate cs) (Template (hexEnd cs)) Neither)
+
+-- how many characters each has
+abbrev pub shapeWidth : Shape → ℕ
+shapeWidth (Template at) = 12
+shapeWidth Whole = 17
+shapeWidth Neither = 0

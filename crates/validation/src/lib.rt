@@ -10,7 +10,7 @@ ghost use Rattle.numbers.specs.Promise.{Does, quietly};
 ghost use Rattle.pins.specs.Answers.{rowOf};
 ghost use Rattle.blocks.specs.Answers.{blockOf};
 ghost use Rattle.validation.specs.Validation.{hexEnd, isTemplate, isWhole, validationRow, validationBlock};
-ghost use Rattle.validation.specs.Answers.{shapeOf};
+ghost use Rattle.validation.specs.Answers.{shapeOf, shapeWidth};
 use alphabet::Class;
 use numbers::Refusal;
 use numbers::Reply;
@@ -81,16 +81,28 @@ impl Shape {
         }
         template(characters)
     }
-}
 
-// The sixteen nibbles that validation data stand for, or 15. The account's twelve digits are a row in a word.
-pub fn validation_row(account: u64, validation: &[u8]) -> Row
-    ensures { λ r. ⌜ r ≡ rowOf (validationRow (row 12 account) (now (validation .entry))) ⌝ }
-{
-    match Shape::of(validation) {
-        Shape::Template(at) => Row::Held(with_account(account, validation, at)),
-        Shape::Whole => Row::Held(pins::values(&validation[1..])),
-        Shape::Neither => Row::Refused(Refusal::Field15),
+    // How many characters data of this shape have.
+    pub fn width(self) -> usize
+        ensures { λ r. ⌜ r ≡ shapeWidth self ⌝ }
+    {
+        match self {
+            Shape::Template(_) => 12,
+            Shape::Whole => 17,
+            Shape::Neither => 0,
+        }
+    }
+
+    // The sixteen nibbles that data of this shape stand for, or 15. The account's twelve digits are a row in a word.
+    pub fn row(self, account: u64, validation: &[u8]) -> Row
+        requires { ⌜ self ≡ shapeOf (now validation) ⌝ }
+        ensures { λ r. ⌜ r ≡ rowOf (validationRow (row 12 account) (now (validation .entry))) ⌝ }
+    {
+        match self {
+            Shape::Template(at) => Row::Held(with_account(account, validation, at)),
+            Shape::Whole => Row::Held(pins::values(&validation[1..])),
+            Shape::Neither => Row::Refused(Refusal::Field15),
+        }
     }
 }
 
@@ -105,7 +117,7 @@ fn judged(validation: &[u8], account: &[u8], room: usize) -> Row
     let Row::Held(digits) = kept else {
         return Row::Refused(Refusal::Field15);
     };
-    validation_row(digits, validation)
+    Shape::of(validation).row(digits, validation)
 }
 
 // Makes the validation block of validation data and an account.

@@ -10,6 +10,7 @@ use Rattle.pins.specs.Answers.{rowOf}
 use Rattle.pins.specs.declared.Row.the-variants.{Refused}
 use Rattle.blocks.specs.Answers.{blockOf}
 use Rattle.validation.specs.Validation.{validationRow}
+use Rattle.validation.specs.Answers.{shapeOf, shapeWidth}
 use Rattle.bk.specs.Answers.{fieldsRefusal}
 use Rattle.bk.proofs.Calls.{found-placed, ask-faulty, ask-row}
 use Rattle.bk.proofs.ask.Statement.{statement}
@@ -39,27 +40,40 @@ digits-at-requires c κs =
     let a = got .before .before .before .before .args in
     (omega arith, found-placed (a .settings .restricted) (a .command .now) (a .start .at) _ (sym (got .fields .given .1) ∙ got .before .before .read .ensures) .account)
 
+width-requires : tie.Need-width-requires
+width-requires c κs = search needs
+
 add-to : tie.Need-add-to
 add-to c =
     let got = c .before .before .before .before in
     let a = got .before .before .before .before .args in
     let inside = found-placed (a .settings .restricted) (a .command .now) (a .start .at) _ (sym (got .fields .given .1) ∙ got .before .before .read .ensures) .validation in
-    omega arith
+    omega (arith, c .width .ensures)
 
-sub-validation-row : tie.Need-sub-validation-row
-sub-validation-row c = search needs
+sub-row : tie.Need-sub-row
+sub-row c = search needs
 
-part-validation-row-start : tie.Need-part-validation-row-start
-part-validation-row-start c = search needs
+part-row-start : tie.Need-part-row-start
+part-row-start c = search needs
 
-part-validation-row-end : tie.Need-part-validation-row-end
-part-validation-row-end c =
+part-row-end : tie.Need-part-row-end
+part-row-end c =
     let got = c .before .before .before .before in
     let a = got .before .before .before .before .args in
-    found-placed (a .settings .restricted) (a .command .now) (a .start .at) _ (sym (got .fields .given .1) ∙ got .before .before .read .ensures) .validation
+    let inside = found-placed (a .settings .restricted) (a .command .now) (a .start .at) _ (sym (got .fields .given .1) ∙ got .before .before .read .ensures) .validation in
+    omega (arith, c .width .ensures)
 
-validation-row-requires : tie.Need-validation-row-requires
-validation-row-requires c κs = search needs
+-- as many characters as were cut out
+cut : (from n m : ℕ) → m ≡ n → from + m - from ≡ n
+cut from n m e = omega arith
+
+row-requires : tie.Need-row-requires
+row-requires c κs =
+    let got = c .before .before .before .before .before in
+    let a = got .before .before .before .before .args in
+    let p = got .fields .given .0 .0 in
+    found-placed (a .settings .restricted) (a .command .now) (a .start .at) _ (sym (got .fields .given .1) ∙ got .before .before .read .ensures) .shape
+    ∙ ap (λ (n : ℕ). shapeOf (take n (drop (p .offsetting .validation) (a .command .now)))) (sym (cut (p .offsetting .validation) (shapeWidth (p .offsetting .shape)) _ (c .before .width .ensures)))
 
 returns-2 : tie.Need-returns-2
 returns-2 c =
@@ -67,12 +81,9 @@ returns-2 c =
     let a = got .before .before .before .before .args in
     let p = got .fields .given .0 .0 in
     let account = c .before .before .before .digits-at .result in
-    c .validation-row .ensures
-    ∙ ap (λ (n : ℕ). rowOf (validationRow (row 12 account) (take n (drop (p .offsetting .validation) (a .command .now))))) (whole (p .offsetting .validation) (p .offsetting .width))
+    c .row .ensures
+    ∙ ap (λ (n : ℕ). rowOf (validationRow (row 12 account) (take n (drop (p .offsetting .validation) (a .command .now))))) (cut (p .offsetting .validation) (shapeWidth (p .offsetting .shape)) _ (c .before .before .width .ensures))
     ∙ ask-row (a .settings) (a .command .now) (a .start .at) p (sym (got .fields .given .1) ∙ got .before .before .read .ensures) account (c .before .before .before .digits-at .ensures)
-  where
-    whole : (from n : ℕ) → from + n - from ≡ n
-    whole from n = omega arith
 
 pub ask-spec : {M : Type 1} → statement M
 ask-spec =
@@ -84,9 +95,10 @@ ask-spec =
     refusal-requires
     returns
     digits-at-requires
+    width-requires
     add-to
-    sub-validation-row
-    part-validation-row-start
-    part-validation-row-end
-    validation-row-requires
+    sub-row
+    part-row-start
+    part-row-end
+    row-requires
     returns-2)

@@ -10,6 +10,7 @@ use Rattle.fields.specs.Answers.{refusalIn}
 use Rattle.fields.specs.Fields.{run, number}
 use Rattle.fields.proofs.Laws.{value-of-found, value-of-bad, run-refuses, number-refuses, field-found, field-bad}
 use Rattle.stages.specs.Stages.{offsetting, validationField}
+use Rattle.stages.proofs.Reading.{shape-found, shape-bad, validation-refuses}
 use Rattle.stages.specs.declared.OffsettingRead.the-variants.{Bad}
 use borrow.Author.Needs.{needs}
 use Rattle.stages.proofs.read_offsetting.Statement.{statement}
@@ -108,9 +109,6 @@ enum-known-shaped c = search needs
 enum-told-4 : tie.Need-enum-told-4
 enum-told-4 c = search needs
 
-refusal-requires-2 : tie.Need-refusal-requires-2
-refusal-requires-2 c κs = search needs
-
 add-fault-at-3 : tie.Need-add-fault-at-3
 add-fault-at-3 c = search needs
 
@@ -120,19 +118,19 @@ fault-at-requires-4 c κs = search needs
 returns-4 : tie.Need-returns-4
 unfolding offsetting
 returns-4 c =
-    let a = c .before .before .before .before .before .before .before .before .before .before .before .before .before .before .before .before .before .before .args in
+    let a = c .before .before .before .before .before .before .before .before .before .before .before .before .before .before .before .before .before .args in
     let s = a .command .now in
-    let account = c .before .before .before .before .before .before .before .before .before .before .before .before .before .before .checked .given .0 .1 .0 in
-    let table = c .before .before .before .before .before .before .before .before .before .before .digits .given .0 .1 .0 in
-    let validation = c .before .before .before .before .before .before .decimals .given .0 .1 .0 in
-    let told = c .before .before .enum-told4 .given .1 in
+    let account = c .before .before .before .before .before .before .before .before .before .before .before .before .before .checked .given .0 .1 .0 in
+    let table = c .before .before .before .before .before .before .before .before .before .digits .given .0 .1 .0 in
+    let validation = c .before .before .before .before .before .decimals .given .0 .1 .0 in
+    let bad = shape-bad _ _ _ (sym (c .before .enum-told4 .given .1) ∙ c .before .before .before .validation-field .ensures) in
     rw (
-      field-found (a .field) (a .start .at) _ (number 4 12 Field15) s _ account (value-of-found _ _ _ _ (sym (c .before .before .before .before .before .before .before .before .before .before .before .before .before .before .checked .given .1) ∙ c .before .before .before .before .before .before .before .before .before .before .before .before .before .before .before .before .number .ensures)),
-      field-found (a .field + 1) (account .at) _ (run Digit Field15 Field15 12) s _ table (value-of-found _ _ _ _ (sym (c .before .before .before .before .before .before .before .before .before .before .digits .given .1) ∙ c .before .before .before .before .before .before .before .before .before .before .before .before .run .ensures)),
-      field-found (a .field + 2) (table .at) _ (run Digit Field15 Table25 16) s _ validation (value-of-found _ _ _ _ (sym (c .before .before .before .before .before .before .decimals .given .1) ∙ c .before .before .before .before .before .before .before .before .run2 .ensures)),
-      field-bad (a .field + 3) (validation .at) _ validationField s _ (value-of-bad _ _ _ (sym told ∙ c .before .before .before .before .validation-field .ensures)),
+      field-found (a .field) (a .start .at) _ (number 4 12 Field15) s _ account (value-of-found _ _ _ _ (sym (c .before .before .before .before .before .before .before .before .before .before .before .before .before .checked .given .1) ∙ c .before .before .before .before .before .before .before .before .before .before .before .before .before .before .before .number .ensures)),
+      field-found (a .field + 1) (account .at) _ (run Digit Field15 Field15 12) s _ table (value-of-found _ _ _ _ (sym (c .before .before .before .before .before .before .before .before .before .digits .given .1) ∙ c .before .before .before .before .before .before .before .before .before .before .before .run .ensures)),
+      field-found (a .field + 2) (table .at) _ (run Digit Field15 Table25 16) s _ validation (value-of-found _ _ _ _ (sym (c .before .before .before .before .before .decimals .given .1) ∙ c .before .before .before .before .before .before .before .run2 .ensures)),
+      field-bad (a .field + 3) (validation .at) _ validationField s _ bad,
     )
-    (ap Bad (c .fault-at4 .ensures ∙ ap (λ (q : Refusal). record { refusal = q; field = a .field + 3; place = validation .at }) (c .before .refusal2 .ensures ∙ ap refusalIn told)))
+    (ap Bad (c .fault-at4 .ensures ∙ ap (λ (q : Refusal). record { refusal = q; field = a .field + 3; place = validation .at }) (sym (validation-refuses (drop (validation .at) s) _ bad))))
 
 returns-5 : tie.Need-returns-5
 unfolding offsetting
@@ -146,7 +144,7 @@ returns-5 c =
       field-found (a .field) (a .start .at) _ (number 4 12 Field15) s _ account (value-of-found _ _ _ _ (sym (c .before .before .before .before .before .before .before .before .before .before .before .before .before .checked .given .1) ∙ c .before .before .before .before .before .before .before .before .before .before .before .before .before .before .before .number .ensures)),
       field-found (a .field + 1) (account .at) _ (run Digit Field15 Field15 12) s _ table (value-of-found _ _ _ _ (sym (c .before .before .before .before .before .before .before .before .before .digits .given .1) ∙ c .before .before .before .before .before .before .before .before .before .before .before .run .ensures)),
       field-found (a .field + 2) (table .at) _ (run Digit Field15 Table25 16) s _ validation (value-of-found _ _ _ _ (sym (c .before .before .before .before .before .decimals .given .1) ∙ c .before .before .before .before .before .before .before .run2 .ensures)),
-      field-found (a .field + 3) (validation .at) _ validationField s _ _ (value-of-found _ _ _ _ (sym (c .before .shaped .given .1) ∙ c .before .before .before .validation-field .ensures)),
+      field-found (a .field + 3) (validation .at) _ validationField s _ _ (shape-found _ _ _ _ (sym (c .before .shaped .given .1) ∙ c .before .before .before .validation-field .ensures)),
     )
 
 pub read-offsetting-spec : {M : Type 1} → statement M
@@ -174,7 +172,6 @@ read-offsetting-spec =
     validation-field-requires
     enum-known-shaped
     enum-told-4
-    refusal-requires-2
     add-fault-at-3
     fault-at-requires-4
     returns-4

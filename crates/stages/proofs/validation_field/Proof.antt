@@ -49,12 +49,12 @@ enum-told-3 c = search needs
 returns-2 : tie.Need-returns-2
 returns-2 c =
     let a = c .before .before .before .before .before .before .before .before .args in
-    validation-whole (a .command .now) (a .cursor .at) _ (c .before .before .before .before .before .before .validation-width .ensures) (omega arith) (shape-template _ _ (sym (c .before .before .of .ensures) ∙ c .enum-told .given .1))
+    validation-whole (a .command .now) (a .cursor .at) _ (c .before .before .before .before .before .before .validation-width .ensures) (omega arith) _ (c .before .before .of .ensures) (shape-template _ _ (sym (c .before .before .of .ensures) ∙ c .enum-told .given .1))
 
 returns-3 : tie.Need-returns-3
 returns-3 c =
     let a = c .before .before .before .before .before .before .before .before .args in
-    validation-whole (a .command .now) (a .cursor .at) _ (c .before .before .before .before .before .before .validation-width .ensures) (omega arith) (shape-whole _ (sym (c .before .before .of .ensures) ∙ c .enum-told2 .given .1))
+    validation-whole (a .command .now) (a .cursor .at) _ (c .before .before .before .before .before .before .validation-width .ensures) (omega arith) _ (c .before .before .of .ensures) (shape-whole _ (sym (c .before .before .of .ensures) ∙ c .enum-told2 .given .1))
 
 returns-4 : tie.Need-returns-4
 returns-4 c =

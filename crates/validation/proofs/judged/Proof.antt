@@ -31,18 +31,21 @@ returns-2 c =
     let a = c .before .before .before .before .before .before .args in
     rw (le-leb 8 (a .room) (c .before .before .before .if1 .left), account-not (a .account .now) _ (c .before .before .account .ensures) _ (c .enum-told .given .1))
 
-validation-row-requires : tie.Need-validation-row-requires
-validation-row-requires c κs = search needs
+of-requires : tie.Need-of-requires
+of-requires c κs = search needs
+
+row-requires : tie.Need-row-requires
+row-requires c κs = search needs
 
 returns-3 : tie.Need-returns-3
 unfolding validationBlock
 returns-3 c =
-    let a = c .before .before .before .before .before .before .before .before .args in
+    let a = c .before .before .before .before .before .before .before .before .before .args in
     let v = a .validation .now in
-    let k = account-held (a .account .now) (c .before .before .before .before .account .result) (c .before .before .before .before .account .ensures) _ (c .before .before .kept .given .1) in
+    let k = account-held (a .account .now) (c .before .before .before .before .before .account .result) (c .before .before .before .before .before .account .ensures) _ (c .before .before .before .kept .given .1) in
     let d = account-done (a .account .now) (k .0) (k .1) in
-    rw (le-leb 8 (a .room) (c .before .before .before .before .before .if1 .left), k .1)
-    (c .validation-row .ensures ∙ ap (λ (ds : List ℕ). rowOf (validationRow ds v)) (account-row (a .account .now) (k .0) _ (k .1) (k .2))
+    rw (le-leb 8 (a .room) (c .before .before .before .before .before .before .if1 .left), k .1)
+    (c .row .ensures ∙ ap (λ (ds : List ℕ). rowOf (validationRow ds v)) (account-row (a .account .now) (k .0) _ (k .1) (k .2))
     ∙ row-block (validationRow (k .0) v) (λ ns e. row-sixteen (k .0) v ns (d .0) (d .1) e))
 
 pub judged-spec : {M : Type 1} → statement M
@@ -54,5 +57,6 @@ judged-spec =
     enum-known-kept
     enum-told
     returns-2
-    validation-row-requires
+    of-requires
+    row-requires
     returns-3)
