@@ -5,7 +5,7 @@ use mathlib.Core.Path.{_≡_, ap}
 use mathlib.Core.List.{List}
 use mathlib.Core.Bool.{Bool}
 use Rattle.nibbles.specs.Nibbles.{word, row}
-use Rattle.nibbles.proofs.Laws.{Below}
+use Rattle.nibbles.proofs.Lists.{Below}
 use Rattle.numbers.specs.Numbers.{refused}
 use Rattle.numbers.specs.declared.Refusal.{Refusal}
 use Rattle.settings.specs.declared.Settings.{Settings}

@@ -7,7 +7,7 @@ use mathlib.Core.List.{List}
 use mathlib.Core.Bool.{Bool, true, false}
 use lib.ListN.{length}
 use Rattle.nibbles.specs.Nibbles.{word, row, every}
-use Rattle.nibbles.proofs.Laws.{below-every}
+use Rattle.nibbles.proofs.Runs.{below-every}
 use Rattle.numbers.specs.Numbers.{Outcome, done, refused, andThen}
 use Rattle.numbers.specs.declared.Refusal.{Refusal}
 use Rattle.numbers.specs.declared.Refusal.the-variants.{Check81, Weak86}

@@ -7,7 +7,8 @@ use mathlib.Core.List.{List}
 use mathlib.Core.Bool.{Bool, true, not}
 use lib.ListN.{length, length-map, length-drop}
 use Rattle.nibbles.specs.Nibbles.{packs, every}
-use Rattle.nibbles.proofs.Laws.{Below, below-every}
+use Rattle.nibbles.proofs.Lists.{Below}
+use Rattle.nibbles.proofs.Runs.{below-every}
 use Rattle.numbers.specs.Numbers.{done}
 use Rattle.numbers.specs.declared.Refusal.the-variants.{Weak86}
 use Rattle.numbers.proofs.Laws.{then-done, passed, value-of}

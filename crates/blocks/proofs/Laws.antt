@@ -12,7 +12,10 @@ use lib.Dec.{leb, eqb, lit<, lit≤}
 use lib.Bits.{xor-lt}
 use borrow.Author.Tests.{leb-true}
 use Rattle.nibbles.specs.Nibbles.{row, word, nibs, packs, xors, within, every, leading}
-use Rattle.nibbles.proofs.Laws.{Below, row-length, row-below, row-word, word-row, leading-take, inside-high, below-weaken, and-left, nibs-length, nibs-below, nibs-packs, packs-length, run-whole, run-broken, map-at, word-none, below-drop, word-lt, word-append, below-every}
+use Rattle.nibbles.proofs.Lists.{Below, below-weaken, and-left, map-at, below-drop}
+use Rattle.nibbles.proofs.Rows.{row-length, row-below, row-word, word-row, word-none, word-lt, word-append}
+use Rattle.nibbles.proofs.Bytes.{nibs-length, nibs-below, nibs-packs, packs-length}
+use Rattle.nibbles.proofs.Runs.{leading-take, inside-high, run-whole, run-broken, below-every}
 use Rattle.numbers.specs.Numbers.{Outcome, done, refused, andThen, unless}
 use Rattle.numbers.specs.declared.Refusal.{Refusal}
 use Rattle.numbers.specs.declared.Refusal.the-variants.{Block20, Length24, Room901}

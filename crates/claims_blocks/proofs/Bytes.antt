@@ -7,7 +7,9 @@ use mathlib.Core.List.{List, [], _∷_}
 use mathlib.Core.Bool.{true}
 use lib.ListN.{length}
 use Rattle.nibbles.specs.Nibbles.{nibs, packs, within, every}
-use Rattle.nibbles.proofs.Laws.{Below, every-below, inside, nibs-length, nibs-below}
+use Rattle.nibbles.proofs.Lists.{Below}
+use Rattle.nibbles.proofs.Bytes.{nibs-length, nibs-below}
+use Rattle.nibbles.proofs.Runs.{every-below, inside}
 use Rattle.numbers.specs.Numbers.{done}
 use Rattle.pins.specs.Pins.{pinHanded}
 use Rattle.pins.proofs.Laws.{Pinned, handed-done}

@@ -9,7 +9,7 @@ use lib.ListN.{length}
 use lib.Dec.{leb, eqb, lit≤}
 use borrow.Author.Tests.{le-leb, leb-true, eq-eqb, eqb-true}
 use Rattle.nibbles.specs.Nibbles.{nibs, packs}
-use Rattle.nibbles.proofs.Laws.{packs-nibs}
+use Rattle.nibbles.proofs.Bytes.{packs-nibs}
 use Rattle.numbers.specs.Numbers.{done}
 use Rattle.numbers.specs.declared.Refusal.the-variants.{Field15, Room901, NotHere69}
 use Rattle.numbers.proofs.Laws.{then-done, passed, value-of}

@@ -10,7 +10,8 @@ use lib.ListN.{length, getD, take, drop, length-append, take-append-drop}
 use lib.Seq.{slice, take-at, drop-at, take-all, take-take}
 use lib.Bits.{bitXor, xor-lt}
 use Rattle.nibbles.specs.Nibbles.{xors, within, every, leading}
-use Rattle.nibbles.proofs.Laws.{and-left, and-right, inside, inside-high}
+use Rattle.nibbles.proofs.Lists.{and-left, and-right}
+use Rattle.nibbles.proofs.Runs.{inside, inside-high}
 
 module _ (p : ℕ → Bool) where
   pub every-drop : (k : ℕ) (ns : List ℕ) → every p ns ≡ true → every p (drop k ns) ≡ true

@@ -11,7 +11,8 @@ use lib.Seq.{slice, getD-drop, getD-take, length-slice}
 use lib.Dec.{eqb, leb·zero}
 use borrow.Author.Tests.{leb-false, eq-eqb, eqb-true}
 use Rattle.nibbles.specs.Nibbles.{within, every}
-use Rattle.nibbles.proofs.Laws.{and-left, and-right, inside, inside-low, inside-high, over}
+use Rattle.nibbles.proofs.Lists.{and-left, and-right}
+use Rattle.nibbles.proofs.Runs.{inside, inside-low, inside-high, over}
 use Rattle.numbers.specs.Numbers.{Outcome, done, andThen, unless}
 use Rattle.numbers.specs.declared.Refusal.the-variants.{Block20, Length24}
 use Rattle.numbers.proofs.Laws.{then-done, passed}

@@ -7,7 +7,8 @@ use mathlib.Core.List.{List, [], _∷_, map}
 use mathlib.Core.Bool.{true}
 use lib.ListN.{length}
 use Rattle.nibbles.specs.Nibbles.{within, every}
-use Rattle.nibbles.proofs.Laws.{and-left, and-right, inside, inside-high, inside-low}
+use Rattle.nibbles.proofs.Lists.{and-left, and-right}
+use Rattle.nibbles.proofs.Runs.{inside, inside-high, inside-low}
 use Rattle.formats.specs.Formats.{leadOf, fillRead, fillWritten, fits, filled}
 use Rattle.formats.specs.declared.Format.{Format}
 use Rattle.formats.specs.declared.Format.the-variants.{F01, F03, F05, F34, F35, F47}

@@ -8,7 +8,7 @@ use mathlib.Core.Bool.{Bool, true, false}
 use lib.ListN.{length, getD, take, drop, length-append, length-drop, length-map, take-append-drop}
 use lib.Seq.{take-append-add, take-append-seam, take-take, getD-take, getD-drop, getD-append-add}
 use Rattle.nibbles.specs.Nibbles.{within}
-use Rattle.nibbles.proofs.Laws.{xors-twice}
+use Rattle.nibbles.proofs.Rows.{xors-twice}
 use Rattle.numbers.specs.Numbers.{done}
 use Rattle.formats.specs.Formats.{leadOf, fillRead, fillWritten, veiled, leads, leadWidth, fits, filled}
 use Rattle.blocks.specs.Blocks.{veil, clearRow, contents, readRow, writeRow}

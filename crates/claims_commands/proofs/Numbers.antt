@@ -10,7 +10,7 @@ use lib.ListN.{length, getD, drop, length-append, length-drop}
 use lib.Dec.{leb, eqb}
 use borrow.Author.Tests.{not-true, eq-eqb, eqb-true}
 use Rattle.nibbles.specs.Nibbles.{nibs, packs, every}
-use Rattle.nibbles.proofs.Laws.{and-left, and-right}
+use Rattle.nibbles.proofs.Lists.{and-left, and-right}
 use Rattle.alphabet.specs.Alphabet.{valueOf}
 use Rattle.numbers.specs.Numbers.{Outcome, done, refused, andThen, unless, numberOf}
 use Rattle.numbers.specs.Promise.{Said, quietly}

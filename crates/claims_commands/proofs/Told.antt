@@ -6,7 +6,7 @@ use mathlib.Core.Path.{_≡_, refl, sym, ap, ap₂, _∙_}
 use mathlib.Core.List.{List, [], _∷_, _++_, append-cancel-left, append-cancel-right}
 use mathlib.Core.Bool.{Bool}
 use lib.ListN.{length, drop, replicate}
-use Rattle.nibbles.proofs.Laws.{Below}
+use Rattle.nibbles.proofs.Lists.{Below}
 use Rattle.alphabet.specs.Alphabet.{characters}
 use Rattle.numbers.specs.Numbers.{Outcome, done, refused, andThen, numberOf}
 use Rattle.numbers.specs.Promise.{Said}

@@ -10,7 +10,8 @@ use lib.Seq.{length-take-le}
 use lib.Dec.{leb, eqb}
 use borrow.Author.Tests.{lt-leb, le-leb, eqb-true}
 use Rattle.nibbles.specs.Nibbles.{within, every, leading, same}
-use Rattle.nibbles.proofs.Laws.{and-left, and-right, inside-low, inside-high, leading-take, leading-le, same-true}
+use Rattle.nibbles.proofs.Lists.{and-left, and-right, same-true}
+use Rattle.nibbles.proofs.Runs.{inside-low, inside-high, leading-take, leading-le}
 use Rattle.alphabet.specs.Alphabet.{admits, allOf, valueOf, characters}
 use Rattle.alphabet.specs.declared.Class.the-variants.{Digit}
 use Rattle.numbers.specs.Numbers.{Outcome, done, refused, andThen, unless}

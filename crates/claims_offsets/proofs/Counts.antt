@@ -9,7 +9,8 @@ use lib.ListN.{length, length-map, length-drop}
 use lib.IntN.{ℤ}
 use lib.Dec.{leb}
 use Rattle.nibbles.specs.Nibbles.{within}
-use Rattle.nibbles.proofs.Laws.{inside-low, every-below, nibs-length}
+use Rattle.nibbles.proofs.Bytes.{nibs-length}
+use Rattle.nibbles.proofs.Runs.{inside-low, every-below}
 use Rattle.numbers.specs.Numbers.{Outcome, done, unless}
 use Rattle.numbers.specs.declared.Refusal.the-variants.{Field15, Check81, Room901}
 use Rattle.numbers.proofs.Laws.{then-done, passed, value-of}

@@ -9,7 +9,7 @@ use lib.ListN.{length}
 use lib.IntN.{ℤ, natAbs}
 use lib.Dec.{leb, eqb}
 use borrow.Author.Tests.{eqb-true, leb-true}
-use Rattle.nibbles.proofs.Laws.{Below, below-drop}
+use Rattle.nibbles.proofs.Lists.{Below, below-drop}
 use Rattle.numbers.specs.Numbers.{done, unless}
 use Rattle.numbers.specs.declared.Refusal.the-variants.{Room901}
 use Rattle.numbers.proofs.Laws.{passed, then-done, value-of}

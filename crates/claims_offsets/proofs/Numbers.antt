@@ -9,7 +9,7 @@ use lib.ListN.{length}
 use lib.Dec.{leb, eqb}
 use borrow.Author.Tests.{eq-eqb}
 use Rattle.nibbles.specs.Nibbles.{packs}
-use Rattle.nibbles.proofs.Laws.{every-below}
+use Rattle.nibbles.proofs.Runs.{every-below}
 use Rattle.alphabet.specs.Alphabet.{characters}
 use Rattle.numbers.specs.Numbers.{Outcome, done, refused, unless, numberOf}
 use Rattle.numbers.specs.Promise.{quietly}

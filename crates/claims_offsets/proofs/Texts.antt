@@ -10,7 +10,8 @@ use lib.Seq.{drop-at}
 use lib.Dec.{leb}
 use borrow.Author.Tests.{lt-leb, le-leb, eq-eqb}
 use Rattle.nibbles.specs.Nibbles.{within, every}
-use Rattle.nibbles.proofs.Laws.{Below, inside, inside-high, every-below, below-every, same-refl}
+use Rattle.nibbles.proofs.Lists.{Below, same-refl}
+use Rattle.nibbles.proofs.Runs.{inside, inside-high, every-below, below-every}
 use Rattle.alphabet.specs.Alphabet.{admits, valueOf, characters}
 use Rattle.alphabet.specs.declared.Class.the-variants.{Digit}
 use Rattle.numbers.specs.Numbers.{done, unless}

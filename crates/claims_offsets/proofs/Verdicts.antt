@@ -7,7 +7,7 @@ use mathlib.Core.Bool.{Bool}
 use lib.ListN.{length}
 use borrow.Author.Tests.{eq-eqb}
 use Rattle.nibbles.specs.Nibbles.{same}
-use Rattle.nibbles.proofs.Laws.{same-refl, same-true, same-false}
+use Rattle.nibbles.proofs.Lists.{same-refl, same-true, same-false}
 use Rattle.numbers.specs.Numbers.{Outcome, done, unless}
 use Rattle.numbers.specs.declared.Refusal.the-variants.{Unverified01}
 use Rattle.numbers.proofs.Laws.{passed}

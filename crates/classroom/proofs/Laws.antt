@@ -10,7 +10,8 @@ use borrow.Author.Tests.{ltb-true, ltb-false, lt-leb, le-leb}
 use Rattle.alphabet.specs.Alphabet.{admits, allOf, valueOf}
 use Rattle.alphabet.specs.declared.Class.the-variants.{CapitalHex}
 use Rattle.nibbles.specs.Nibbles.{nibs}
-use Rattle.nibbles.proofs.Laws.{Below, nibs-below}
+use Rattle.nibbles.proofs.Lists.{Below}
+use Rattle.nibbles.proofs.Bytes.{nibs-below}
 use Rattle.classroom.specs.Text.{characterOf, spelled}
 
 -- a nibble's character is of the class and has the nibble's value

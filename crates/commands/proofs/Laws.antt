@@ -10,7 +10,8 @@ use lib.Seq.{take-all}
 use lib.Dec.{leb, lit≤}
 use borrow.Author.Tests.{leb-true, lt-leb, le-leb}
 use Rattle.nibbles.specs.Nibbles.{packs}
-use Rattle.nibbles.proofs.Laws.{row-word, below-weaken}
+use Rattle.nibbles.proofs.Lists.{below-weaken}
+use Rattle.nibbles.proofs.Rows.{row-word}
 use Rattle.numbers.specs.Numbers.{Outcome, done, refused, andThen, unless, numberOf}
 use Rattle.numbers.specs.Promise.{Does, quietly}
 use Rattle.numbers.specs.declared.Refusal.{Refusal}

@@ -11,7 +11,7 @@ use lib.Seq.{slice, take-nil, drop-drop, drop-cons, getD-drop}
 use lib.Dec.{leb, eqb}
 use borrow.Author.Tests.{leb-true, le-leb, lt-leb, eq-eqb, ne-eqb}
 use Rattle.nibbles.specs.Nibbles.{within}
-use Rattle.nibbles.proofs.Laws.{inside, inside-low, inside-high}
+use Rattle.nibbles.proofs.Runs.{inside, inside-low, inside-high}
 use Rattle.alphabet.specs.Alphabet.{allOf, begins, valueOf}
 use Rattle.alphabet.specs.declared.Class.{Class}
 use Rattle.alphabet.specs.declared.Class.the-variants.{Digit, Printable}

@@ -11,7 +11,9 @@ use lib.Dec.{lit<, leb, eqb}
 use lib.IntN.{ℤ, pos, negsuc}
 use borrow.Author.Tests.{eqb-true, leb-true}
 use Rattle.nibbles.specs.Nibbles.{row, within, word}
-use Rattle.nibbles.proofs.Laws.{Below, row-length, row-at-lt, map-at, map-below, row-at-less, below-at, every-below, row-word, inside-low, inside-high}
+use Rattle.nibbles.proofs.Lists.{Below, map-at, map-below, below-at}
+use Rattle.nibbles.proofs.Rows.{row-length, row-at-lt, row-at-less, row-word}
+use Rattle.nibbles.proofs.Runs.{every-below, inside-low, inside-high}
 use Rattle.alphabet.specs.Alphabet.{characters, allOf, valueOf}
 use Rattle.ibm3624.specs.Ibm3624.{decimal, naturalOf, lastOf, difference, differences, moduloTen, covered, offsetOf, offsetText, tableSized, tableOf, naturalPin}
 use Rattle.alphabet.specs.declared.Class.the-variants.{Digit}

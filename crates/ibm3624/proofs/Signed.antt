@@ -11,7 +11,7 @@ use lib.Signed.{mag, ltZ, nonNeg}
 use mir.Syntax.{w8, w32, w64}
 use mir.Val.{SFits, Fits, hbits}
 use borrow.Author.Tests.{eqb-true, eqb-false, ltb-true, leb-true}
-use Rattle.nibbles.proofs.Laws.{and-left, and-right}
+use Rattle.nibbles.proofs.Lists.{and-left, and-right}
 use Rattle.ibm3624.specs.Ibm3624.{difference, moduloTen}
 
 -- the test passes at every number below k

@@ -7,7 +7,8 @@ use mathlib.Core.List.{List}
 use mathlib.Core.Bool.{Bool}
 use lib.ListN.{length}
 use Rattle.nibbles.specs.Nibbles.{word, row}
-use Rattle.nibbles.proofs.Laws.{Below, nibs-length}
+use Rattle.nibbles.proofs.Lists.{Below}
+use Rattle.nibbles.proofs.Bytes.{nibs-length}
 use Rattle.numbers.specs.Numbers.{Outcome, done, refused, unless}
 use Rattle.numbers.specs.declared.Refusal.{Refusal}
 use Rattle.numbers.specs.declared.Refusal.the-variants.{PinKeyParity10, PvkParity11}

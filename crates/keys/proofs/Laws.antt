@@ -11,7 +11,7 @@ use lib.Seq.{drop-drop, getD-drop}
 use lib.Dec.{leb}
 use borrow.Author.Tests.{le-leb, lt-leb}
 use Rattle.nibbles.specs.Nibbles.{within}
-use Rattle.nibbles.proofs.Laws.{inside, inside-low, inside-high}
+use Rattle.nibbles.proofs.Runs.{inside, inside-low, inside-high}
 use Rattle.alphabet.specs.Alphabet.{begins, valueOf}
 use Rattle.alphabet.specs.declared.Class.the-variants.{Digit, CapitalHex, Printable}
 use Rattle.numbers.specs.Numbers.{done, refused, andThen, unless}

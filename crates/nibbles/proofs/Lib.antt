@@ -1,1 +1,4 @@
-pub mod Laws
+pub mod Lists
+pub mod Rows
+pub mod Bytes
+pub mod Runs

@@ -9,7 +9,9 @@ use lib.ListN.{length}
 use lib.Dec.{leb, eqb, lit≤}
 use borrow.Author.Tests.{leb-true, eqb-true}
 use Rattle.nibbles.specs.Nibbles.{row, word, within, every, nibs}
-use Rattle.nibbles.proofs.Laws.{Below, row-word, below-weaken, below-every, every-below, word-under, row-length}
+use Rattle.nibbles.proofs.Lists.{Below, below-weaken}
+use Rattle.nibbles.proofs.Rows.{row-word, word-under, row-length}
+use Rattle.nibbles.proofs.Runs.{below-every, every-below}
 use Rattle.numbers.specs.Numbers.{Outcome, done, refused, andThen, unless}
 use Rattle.numbers.specs.declared.Refusal.{Refusal}
 use Rattle.numbers.specs.declared.Refusal.the-variants.{Field15, Block20, Length24, Table25, Check81, Room901}

@@ -9,7 +9,10 @@ use lib.ListN.{length, replicate, length-map}
 use lib.Dec.{eqb, lit<, lit≤, leb}
 use borrow.Author.Tests.{eqb-true, leb-true, lt-leb}
 use Rattle.nibbles.specs.Nibbles.{nibs, word, row, within, every}
-use Rattle.nibbles.proofs.Laws.{Below, every-below, below-weaken, map-below, inside-low, inside-high, and-left, row-length, row-below, row-word, word-lt, word-under, nibs-length, nibs-below, and-right}
+use Rattle.nibbles.proofs.Lists.{Below, below-weaken, map-below, and-left, and-right}
+use Rattle.nibbles.proofs.Rows.{row-length, row-below, row-word, word-lt, word-under}
+use Rattle.nibbles.proofs.Bytes.{nibs-length, nibs-below}
+use Rattle.nibbles.proofs.Runs.{every-below, inside-low, inside-high}
 use Rattle.alphabet.specs.Alphabet.{admits, allOf, valueOf}
 use Rattle.alphabet.proofs.Laws.{value-below}
 use Rattle.alphabet.specs.declared.Class.the-variants.{Digit}

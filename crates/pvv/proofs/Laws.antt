@@ -12,7 +12,10 @@ use lib.Seq.{slice, drop-cons, take-all, take-at, length-take-le}
 use lib.Dec.{leb, eqb, lit≤}
 use borrow.Author.Tests.{leb-true, leb-false, le-leb, lt-leb, eqb-true, not-true, not-false}
 use Rattle.nibbles.specs.Nibbles.{row, word, nibs, within, same}
-use Rattle.nibbles.proofs.Laws.{Below, row-length, row-below, row-word, row-take, row-part, word-row, word-lt, word-under, word-append, nibs-length, below-drop, below-weaken, map-below, and-left, inside, under, over, same-refl, same-false}
+use Rattle.nibbles.proofs.Lists.{Below, below-drop, below-weaken, map-below, and-left, same-refl, same-false}
+use Rattle.nibbles.proofs.Rows.{row-length, row-below, row-word, row-take, row-part, word-row, word-lt, word-under, word-append}
+use Rattle.nibbles.proofs.Bytes.{nibs-length}
+use Rattle.nibbles.proofs.Runs.{inside, under, over}
 use Rattle.alphabet.specs.Alphabet.{allOf, valueOf, characters}
 use Rattle.alphabet.specs.declared.Class.the-variants.{Digit}
 use Rattle.alphabet.proofs.Laws.{value-below}

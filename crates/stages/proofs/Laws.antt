@@ -10,7 +10,8 @@ use lib.Seq.{length-take-le}
 use lib.Dec.{leb}
 use borrow.Author.Tests.{leb-true}
 use Rattle.nibbles.specs.Nibbles.{word, row}
-use Rattle.nibbles.proofs.Laws.{Below, row-word, word-under, map-below}
+use Rattle.nibbles.proofs.Lists.{Below, map-below}
+use Rattle.nibbles.proofs.Rows.{row-word, word-under}
 use Rattle.alphabet.specs.Alphabet.{allOf, valueOf}
 use Rattle.alphabet.proofs.Laws.{value-below}
 use Rattle.alphabet.specs.declared.Class.the-variants.{Digit}

@@ -6,7 +6,7 @@ use mathlib.Core.List.{List}
 use mathlib.Core.Bool.{Bool}
 use lib.Dec.{leb}
 use borrow.Author.Tests.{leb-true}
-use Rattle.nibbles.proofs.Laws.{Below}
+use Rattle.nibbles.proofs.Lists.{Below}
 use Rattle.numbers.specs.Numbers.{Outcome, done, refused, unless}
 use Rattle.numbers.specs.declared.Refusal.the-variants.{Room901}
 use Rattle.numbers.proofs.Laws.{then-done, passed, value-of}

@@ -11,7 +11,8 @@ use lib.Seq.{slice, take-all, length-take-le}
 use lib.Dec.{leb, eqb, lit≤}
 use borrow.Author.Tests.{leb-true, eqb-true, eq-eqb, ne-eqb}
 use Rattle.nibbles.specs.Nibbles.{row, word, packs}
-use Rattle.nibbles.proofs.Laws.{Below, row-length, row-below, row-take, word-lt, word-under, word-append, and-left, and-right, map-below, below-drop}
+use Rattle.nibbles.proofs.Lists.{Below, and-left, and-right, map-below, below-drop}
+use Rattle.nibbles.proofs.Rows.{row-length, row-below, row-take, word-lt, word-under, word-append}
 use Rattle.alphabet.specs.Alphabet.{allOf, valueOf}
 use Rattle.alphabet.proofs.Laws.{value-below}
 use Rattle.alphabet.specs.declared.Class.the-variants.{CapitalHex}

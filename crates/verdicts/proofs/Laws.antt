@@ -16,7 +16,8 @@ use Rattle.pins.specs.Answers.{readingOf}
 use Rattle.pins.proofs.Laws.{reading-got}
 use Rattle.blocks.specs.Answers.{digitsOf}
 use Rattle.nibbles.specs.Nibbles.{row, word, within, every, same}
-use Rattle.nibbles.proofs.Laws.{Below, row-word, below-weaken, row-length, word-row, word-lt, same-refl, same-false, map-below}
+use Rattle.nibbles.proofs.Lists.{Below, below-weaken, same-refl, same-false, map-below}
+use Rattle.nibbles.proofs.Rows.{row-word, row-length, word-row, word-lt}
 use Rattle.numbers.specs.Numbers.{Outcome, done, refused, andThen, unless}
 use Rattle.numbers.specs.declared.Refusal.{Refusal}
 use Rattle.numbers.specs.declared.Refusal.the-variants.{Field15, Check81, Unverified01}

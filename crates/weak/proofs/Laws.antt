@@ -11,7 +11,7 @@ use lib.Seq.{length-take-le, drop-drop}
 use lib.Dec.{leb, eqb}
 use borrow.Author.Tests.{eq-eqb, ne-eqb, eqb-true, eqb-false, leb-true, lt-leb}
 use Rattle.nibbles.specs.Nibbles.{same}
-use Rattle.nibbles.proofs.Laws.{and-left, and-right, same-false}
+use Rattle.nibbles.proofs.Lists.{and-left, and-right, same-false}
 use Rattle.alphabet.specs.Alphabet.{admits, allOf, begins, characters, valueOf}
 use Rattle.alphabet.specs.declared.Class.the-variants.{Digit}
 use Rattle.numbers.specs.Numbers.{done, refused, andThen}

@@ -2,7 +2,7 @@
 -- Assumes nothing.
 use mathlib.Core.Path.{sym, ap, _∙_}
 use borrow.Author.Needs.{needs}
-use Rattle.nibbles.proofs.Laws.{bytes-below}
+use Rattle.nibbles.proofs.Bytes.{bytes-below}
 use Rattle.pins.specs.Answers.{refusalIn}
 use Rattle.keybox.specs.Answers.{boxRefusal}
 use Rattle.bk.specs.Answers.{fieldsRefusal, finishedOf}

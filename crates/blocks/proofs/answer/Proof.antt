@@ -10,7 +10,8 @@ use Rattle.pins.specs.declared.Row.{Row}
 use Rattle.pins.specs.Answers.{refusedIn}
 use Rattle.numbers.proofs.Laws.{does-refuse, does-write}
 use Rattle.numbers.specs.Numbers.{numberOf}
-use Rattle.nibbles.proofs.Laws.{packs-length, row-length}
+use Rattle.nibbles.proofs.Rows.{row-length}
+use Rattle.nibbles.proofs.Bytes.{packs-length}
 use Rattle.nibbles.specs.Nibbles.{row, packs}
 use Rattle.blocks.proofs.answer.Statement.{statement}
 use Rattle.blocks.proofs.answer.Tie as tie

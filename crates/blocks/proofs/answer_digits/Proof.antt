@@ -11,7 +11,7 @@ use Rattle.pins.specs.declared.Reading.{Reading}
 use Rattle.pins.specs.Answers.{refusalIn}
 use Rattle.numbers.proofs.Laws.{does-refuse, does-write}
 use Rattle.numbers.specs.Numbers.{numberOf}
-use Rattle.nibbles.proofs.Laws.{row-length}
+use Rattle.nibbles.proofs.Rows.{row-length}
 use Rattle.blocks.proofs.answer_digits.Statement.{statement}
 use Rattle.blocks.proofs.answer_digits.Tie as tie
 

@@ -9,7 +9,8 @@ use lib.ListN.{length}
 use borrow.Author.Needs.{needs}
 use Rattle.pins.specs.declared.Count.the-variants.{Of}
 use Rattle.blocks.proofs.Laws.{whole-row, before-part}
-use Rattle.nibbles.proofs.Laws.{run-whole, run-broken, leading-le, row-length}
+use Rattle.nibbles.proofs.Rows.{row-length}
+use Rattle.nibbles.proofs.Runs.{run-whole, run-broken, leading-le}
 use Rattle.blocks.specs.Blocks.{beforeF}
 use Rattle.pins.specs.Pins.{digit}
 use Rattle.nibbles.specs.Nibbles.{row, within, leading, every}

@@ -6,7 +6,7 @@ use mathlib.Core.Path.{_≡_, ap, sym, _∙_, ap₂}
 use lib.Seq.{slice, length-slice}
 use lib.ListN.{length}
 use borrow.Author.Needs.{needs}
-use Rattle.nibbles.proofs.Laws.{row-length}
+use Rattle.nibbles.proofs.Rows.{row-length}
 use Rattle.nibbles.specs.Nibbles.{row, leading, within}
 use Rattle.pins.specs.declared.Reading.the-variants.{Got}
 use Rattle.blocks.proofs.Laws.{lead-short, digits-end, wrong-digits, wrong-fill, right-contents}

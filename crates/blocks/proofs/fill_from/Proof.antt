@@ -7,7 +7,7 @@ use lib.Dec.{lit≤}
 use lib.ListN.{drop}
 use borrow.Author.Needs.{needs}
 use Rattle.blocks.proofs.Laws.{filledRow, filled-row-below, filled-length, filled-at, filled-none, filled-from}
-use Rattle.nibbles.proofs.Laws.{word-next, word-room}
+use Rattle.nibbles.proofs.Rows.{word-next, word-room}
 use Rattle.formats.specs.Formats.{filled}
 use Rattle.nibbles.specs.Nibbles.{word}
 use Rattle.blocks.proofs.fill_from.Statement.{statement}

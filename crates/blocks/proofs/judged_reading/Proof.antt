@@ -14,7 +14,7 @@ use Rattle.pins.specs.Pins.{sized}
 use Rattle.formats.proofs.Laws.{chosen-of, chosen-bad}
 use Rattle.formats.specs.Answers.{refusalIn}
 use Rattle.formats.specs.Formats.{codeOf, formatOf}
-use Rattle.nibbles.proofs.Laws.{bytes-below}
+use Rattle.nibbles.proofs.Bytes.{bytes-below}
 use Rattle.nibbles.specs.Nibbles.{nibs}
 use Rattle.blocks.proofs.judged_reading.Statement.{statement}
 use Rattle.blocks.proofs.judged_reading.Tie as tie

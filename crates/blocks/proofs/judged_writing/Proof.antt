@@ -15,7 +15,7 @@ use Rattle.pins.specs.Pins.{pinHanded, accountField}
 use Rattle.formats.proofs.Laws.{chosen-of, chosen-bad}
 use Rattle.formats.specs.Answers.{refusalIn}
 use Rattle.formats.specs.Formats.{codeOf, formatOf}
-use Rattle.nibbles.proofs.Laws.{bytes-below}
+use Rattle.nibbles.proofs.Bytes.{bytes-below}
 use Rattle.nibbles.specs.Nibbles.{nibs, word}
 use Rattle.blocks.proofs.judged_writing.Statement.{statement}
 use Rattle.blocks.proofs.judged_writing.Tie as tie

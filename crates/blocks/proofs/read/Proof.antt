@@ -12,7 +12,7 @@ use Rattle.formats.specs.declared.Lead.{Lead}
 use Rattle.formats.specs.Formats.{leadOf, veiled}
 use Rattle.numbers.proofs.Laws.{passed, failed}
 use Rattle.numbers.specs.declared.Refusal.the-variants.{Length24}
-use Rattle.nibbles.proofs.Laws.{inside-high}
+use Rattle.nibbles.proofs.Runs.{inside-high}
 use Rattle.nibbles.specs.Nibbles.{row, within}
 use Rattle.blocks.proofs.read.Statement.{statement}
 use Rattle.blocks.proofs.read.Tie as tie

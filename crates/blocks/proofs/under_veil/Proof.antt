@@ -4,7 +4,7 @@ use mathlib.Core.Path.{sym, ap, _∙_}
 use lib.Bits.{bitXor, xor-lt}
 use borrow.Author.Needs.{needs}
 use Rattle.nibbles.specs.Nibbles.{word}
-use Rattle.nibbles.proofs.Laws.{row-xor, word-back}
+use Rattle.nibbles.proofs.Rows.{row-xor, word-back}
 use Rattle.blocks.proofs.under_veil.Statement.{statement}
 use Rattle.blocks.proofs.under_veil.Tie as tie
 

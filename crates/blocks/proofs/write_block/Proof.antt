@@ -8,7 +8,7 @@ use Rattle.blocks.specs.Answers.{Roomy, bytesOf}
 use Rattle.blocks.specs.Blocks.{writeBlock}
 use Rattle.pins.specs.declared.Row.{Row}
 use Rattle.numbers.proofs.Laws.{does-as}
-use Rattle.nibbles.proofs.Laws.{bytes-below}
+use Rattle.nibbles.proofs.Bytes.{bytes-below}
 use Rattle.blocks.proofs.write_block.Statement.{statement}
 use Rattle.blocks.proofs.write_block.Tie as tie
 

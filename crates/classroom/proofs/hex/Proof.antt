@@ -7,7 +7,9 @@ use mathlib.Core.Path.{_≡_, sym, ap, refl, _∙_}
 use lib.ListN.{length, take, drop, length-map}
 use borrow.Author.Needs.{needs}
 use Rattle.nibbles.specs.Nibbles.{row, word, nibs}
-use Rattle.nibbles.proofs.Laws.{over-step, over-end, row-length, row-at-lt, map-at, Below, row-word, nibs-length, nibs-below, bytes-below}
+use Rattle.nibbles.proofs.Lists.{over-step, over-end, map-at, Below}
+use Rattle.nibbles.proofs.Rows.{row-length, row-at-lt, row-word}
+use Rattle.nibbles.proofs.Bytes.{nibs-length, nibs-below, bytes-below}
 use Rattle.classroom.specs.Text.{characterOf}
 use Rattle.classroom.proofs.hex.Statement.{statement}
 use Rattle.classroom.proofs.hex.Tie as tie

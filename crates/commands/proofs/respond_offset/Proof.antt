@@ -6,7 +6,7 @@ use mathlib.Core.Path.{sym, _∙_}
 use mathlib.Core.List.{_++_}
 use lib.ListN.{drop, length, length-append, length-drop}
 use Rattle.nibbles.specs.Nibbles.{row}
-use Rattle.nibbles.proofs.Laws.{row-length}
+use Rattle.nibbles.proofs.Rows.{row-length}
 use Rattle.ibm3624.specs.Ibm3624.{offsetText}
 use Rattle.ibm3624.proofs.Laws.{text-length}
 use Rattle.frame.specs.Frame.{opening}

@@ -14,7 +14,8 @@ use Rattle.pins.specs.Answers.{pinOf}
 use Rattle.pins.specs.Pins.{pinLength}
 use Rattle.numbers.proofs.Laws.{passed, failed}
 use Rattle.numbers.specs.declared.Refusal.the-variants.{Length24}
-use Rattle.nibbles.proofs.Laws.{bytes-below, inside-high}
+use Rattle.nibbles.proofs.Bytes.{bytes-below}
+use Rattle.nibbles.proofs.Runs.{inside-high}
 use Rattle.nibbles.specs.Nibbles.{nibs, within}
 use Rattle.ibm3624.proofs.judged_natural.Statement.{statement}
 use Rattle.ibm3624.proofs.judged_natural.Tie as tie

@@ -6,7 +6,7 @@ use mathlib.Core.Path.{_≡_, sym, ap, _∙_, ap₂}
 use lib.ListN.{length, drop, getD}
 use borrow.Author.Needs.{needs}
 use Rattle.ibm3624.proofs.Laws.{naturalRow, natural-length, natural-below, natural-at}
-use Rattle.nibbles.proofs.Laws.{word-next, word-room, word-none, row-at-lt}
+use Rattle.nibbles.proofs.Rows.{word-next, word-room, word-none, row-at-lt}
 use Rattle.ibm3624.specs.Ibm3624.{naturalOf}
 use Rattle.nibbles.specs.Nibbles.{row, word}
 use Rattle.ibm3624.proofs.natural.Statement.{statement}

@@ -7,7 +7,7 @@ use Rattle.ibm3624.proofs.Laws.{natural-digital}
 use Rattle.ibm3624.specs.Ibm3624.{naturalPin}
 use Rattle.blocks.proofs.Laws.{Digital, answered-digits, roomy-digits}
 use Rattle.blocks.specs.Answers.{digitsIn, RoomyDigits}
-use Rattle.nibbles.proofs.Laws.{bytes-below}
+use Rattle.nibbles.proofs.Bytes.{bytes-below}
 use Rattle.pins.specs.declared.Reading.{Reading}
 use Rattle.numbers.proofs.Laws.{does-as}
 use Rattle.ibm3624.proofs.natural_pin.Statement.{statement}

@@ -7,7 +7,8 @@ use lib.Dec.{lit≤}
 use lib.ListN.{drop}
 use borrow.Author.Needs.{needs}
 use Rattle.ibm3624.proofs.Laws.{offset-length, offset-below, offset-at, pin-nibble, natural-nibble, pin-digit, natural-digit}
-use Rattle.nibbles.proofs.Laws.{word-next, word-room, word-none, below-weaken}
+use Rattle.nibbles.proofs.Lists.{below-weaken}
+use Rattle.nibbles.proofs.Rows.{word-next, word-room, word-none}
 use Rattle.ibm3624.specs.Ibm3624.{difference, moduloTen, offsetOf}
 use Rattle.nibbles.specs.Nibbles.{row, word}
 use Rattle.ibm3624.proofs.offset.Statement.{statement}

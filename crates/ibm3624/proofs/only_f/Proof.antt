@@ -5,7 +5,7 @@ use native.Mathlib.Omega.{arith}
 use mathlib.Core.Path.{_≡_, refl, sym, ap, _∙_}
 use lib.ListN.{length, drop, getD}
 use borrow.Author.Needs.{needs}
-use Rattle.nibbles.proofs.Laws.{every-stop, every-on, inside, every-none, not-f}
+use Rattle.nibbles.proofs.Runs.{every-stop, every-on, inside, every-none, not-f}
 use Rattle.nibbles.specs.Nibbles.{every, within}
 use Rattle.ibm3624.proofs.only_f.Statement.{statement}
 use Rattle.ibm3624.proofs.only_f.Tie as tie

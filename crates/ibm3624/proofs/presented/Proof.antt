@@ -11,7 +11,7 @@ use Rattle.ibm3624.specs.Ibm3624.{digitEnd}
 use Rattle.pins.specs.declared.Reading.the-variants.{Got}
 use Rattle.alphabet.specs.declared.Class.the-variants.{Digit}
 use Rattle.alphabet.specs.Alphabet.{admits, valueOf}
-use Rattle.nibbles.proofs.Laws.{leading-le}
+use Rattle.nibbles.proofs.Runs.{leading-le}
 use Rattle.nibbles.specs.Nibbles.{every, within}
 use Rattle.ibm3624.proofs.presented.Statement.{statement}
 use Rattle.ibm3624.proofs.presented.Tie as tie

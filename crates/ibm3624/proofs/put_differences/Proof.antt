@@ -12,7 +12,7 @@ use mir.Syntax.{w8, w32}
 use borrow.Author.Needs.{needs}
 use Rattle.ibm3624.proofs.Signed.{difference-fits, difference-small}
 use Rattle.ibm3624.proofs.Laws.{covered-length, covered-at, pin-nibble, natural-nibble, pin-digit, natural-digit, pinDigit, naturalDigit}
-use Rattle.nibbles.proofs.Laws.{over-step, over-end, over-length}
+use Rattle.nibbles.proofs.Lists.{over-step, over-end, over-length}
 use Rattle.ibm3624.specs.Ibm3624.{difference, covered}
 use Rattle.nibbles.specs.Nibbles.{row}
 use Rattle.ibm3624.proofs.put_differences.Statement.{statement}

@@ -7,7 +7,8 @@ use mathlib.Core.Path.{_≡_, sym, ap, _∙_}
 use lib.ListN.{length, take, drop, length-map}
 use borrow.Author.Needs.{needs}
 use Rattle.ibm3624.proofs.Laws.{text-length, text-head, text-fill, started, kept-length, kept-rest}
-use Rattle.nibbles.proofs.Laws.{row-length, over-step, over-end, over-length}
+use Rattle.nibbles.proofs.Lists.{over-step, over-end, over-length}
+use Rattle.nibbles.proofs.Rows.{row-length}
 use Rattle.ibm3624.specs.Ibm3624.{offsetText}
 use Rattle.alphabet.specs.Alphabet.{characters}
 use Rattle.nibbles.specs.Nibbles.{row}

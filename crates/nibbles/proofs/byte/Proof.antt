@@ -5,7 +5,8 @@ use native.Mathlib.Omega.{arith}
 use mathlib.Core.Path.{sym, ap₂, _∙_, _≡_, ap}
 use lib.ListN.{getD}
 use borrow.Author.Needs.{needs}
-use Rattle.nibbles.proofs.Laws.{packs-at, row-at-lt, row-length}
+use Rattle.nibbles.proofs.Rows.{row-at-lt, row-length}
+use Rattle.nibbles.proofs.Bytes.{packs-at}
 use Rattle.nibbles.specs.Nibbles.{row}
 use Rattle.nibbles.proofs.byte.Statement.{statement}
 use Rattle.nibbles.proofs.byte.Tie as tie

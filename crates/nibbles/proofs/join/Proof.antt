@@ -1,7 +1,7 @@
 -- `nibbles::join` meets its contract.
 -- Assumes nothing.
 use borrow.Author.Needs.{needs}
-use Rattle.nibbles.proofs.Laws.{word-join, word-join-fits}
+use Rattle.nibbles.proofs.Rows.{word-join, word-join-fits}
 use Rattle.nibbles.proofs.join.Statement.{statement}
 use Rattle.nibbles.proofs.join.Tie as tie
 

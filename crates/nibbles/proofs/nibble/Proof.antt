@@ -4,7 +4,7 @@ use Prim.Native.Nat.{ℕ, _/_, _%_}
 use mathlib.Core.Path.{sym, ap, _∙_}
 use lib.Bits.{and-mask}
 use borrow.Author.Needs.{needs}
-use Rattle.nibbles.proofs.Laws.{row-at, sixteen-power}
+use Rattle.nibbles.proofs.Rows.{row-at, sixteen-power}
 use Rattle.nibbles.proofs.nibble.Statement.{statement}
 use Rattle.nibbles.proofs.nibble.Tie as tie
 

@@ -4,7 +4,7 @@ use Prim.Native.Nat.{ℕ, _/_, _%_, _^_}
 use native.Mathlib.Omega.{arith}
 use mathlib.Core.Path.{sym, ap, ap₂, _∙_}
 use borrow.Author.Needs.{needs}
-use Rattle.nibbles.proofs.Laws.{row-part, word-row, one-shifted, sixteen-power, sixteens}
+use Rattle.nibbles.proofs.Rows.{row-part, word-row, one-shifted, sixteen-power, sixteens}
 use Rattle.nibbles.specs.Nibbles.{word}
 use Rattle.nibbles.proofs.part.Statement.{statement}
 use Rattle.nibbles.proofs.part.Tie as tie

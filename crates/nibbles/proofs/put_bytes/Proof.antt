@@ -6,7 +6,9 @@ use mathlib.Core.List.{_++_}
 use mathlib.Core.Path.{_≡_, refl, ap, _∙_}
 use lib.ListN.{length, take, drop}
 use borrow.Author.Needs.{needs}
-use Rattle.nibbles.proofs.Laws.{over-step, over-end, over-length, row-length, packs-length}
+use Rattle.nibbles.proofs.Lists.{over-step, over-end, over-length}
+use Rattle.nibbles.proofs.Rows.{row-length}
+use Rattle.nibbles.proofs.Bytes.{packs-length}
 use Rattle.nibbles.specs.Nibbles.{row, packs}
 use Rattle.nibbles.proofs.put_bytes.Statement.{statement}
 use Rattle.nibbles.proofs.put_bytes.Tie as tie

@@ -6,7 +6,8 @@ use mathlib.Core.List.{_++_}
 use mathlib.Core.Path.{_≡_, refl, ap, _∙_}
 use lib.ListN.{length, take, drop}
 use borrow.Author.Needs.{needs}
-use Rattle.nibbles.proofs.Laws.{over-length, row-length, over-step, over-end, row-at-less, row-at-lt}
+use Rattle.nibbles.proofs.Lists.{over-length, over-step, over-end}
+use Rattle.nibbles.proofs.Rows.{row-length, row-at-less, row-at-lt}
 use Rattle.nibbles.specs.Nibbles.{row}
 use Rattle.nibbles.proofs.put_nibbles.Statement.{statement}
 use Rattle.nibbles.proofs.put_nibbles.Tie as tie

@@ -7,7 +7,7 @@ use mathlib.Core.Path.{_≡_, sym, ap, _∙_}
 use lib.Seq.{drop-length}
 use lib.ListN.{length, drop}
 use borrow.Author.Needs.{needs}
-use Rattle.nibbles.proofs.Laws.{bytes-below, nibs-next, nibs-room}
+use Rattle.nibbles.proofs.Bytes.{bytes-below, nibs-next, nibs-room}
 use Rattle.nibbles.specs.Nibbles.{word, nibs}
 use Rattle.nibbles.proofs.row_of.Statement.{statement}
 use Rattle.nibbles.proofs.row_of.Tie as tie

@@ -7,7 +7,8 @@ use mathlib.Core.Path.{_≡_, refl, sym, ap, _∙_}
 use lib.Seq.{slice}
 use lib.ListN.{length}
 use borrow.Author.Needs.{needs}
-use Rattle.nibbles.proofs.Laws.{run-stop, run-on, run-over, under, over, inside, row-length}
+use Rattle.nibbles.proofs.Rows.{row-length}
+use Rattle.nibbles.proofs.Runs.{run-stop, run-on, run-over, under, over, inside}
 use Rattle.nibbles.specs.Nibbles.{row, within, leading}
 use Rattle.nibbles.proofs.run_end.Statement.{statement}
 use Rattle.nibbles.proofs.run_end.Tie as tie

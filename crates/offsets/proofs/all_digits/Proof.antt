@@ -6,7 +6,7 @@ use mathlib.Core.Path.{_≡_, refl, ap, sym, _∙_}
 use lib.ListN.{length, drop, getD}
 use borrow.Author.Needs.{needs}
 use Rattle.pins.specs.Pins.{digit}
-use Rattle.nibbles.proofs.Laws.{every-stop, every-on, every-none, over, inside}
+use Rattle.nibbles.proofs.Runs.{every-stop, every-on, every-none, over, inside}
 use Rattle.nibbles.specs.Nibbles.{every}
 use Rattle.offsets.proofs.all_digits.Statement.{statement}
 use Rattle.offsets.proofs.all_digits.Tie as tie

@@ -13,7 +13,7 @@ use Rattle.pins.specs.declared.Reading.{Reading}
 use Rattle.pins.specs.Answers.{refusalIn}
 use Rattle.numbers.proofs.Laws.{does-refuse, does-write}
 use Rattle.numbers.specs.Numbers.{numberOf}
-use Rattle.nibbles.proofs.Laws.{row-length}
+use Rattle.nibbles.proofs.Rows.{row-length}
 use Rattle.offsets.proofs.answer.Statement.{statement}
 use Rattle.offsets.proofs.answer.Tie as tie
 

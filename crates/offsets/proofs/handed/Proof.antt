@@ -15,7 +15,7 @@ use Rattle.pins.specs.Answers.{refusalIn}
 use Rattle.pins.specs.Pins.{digit, pinHanded, digitsHanded}
 use Rattle.numbers.proofs.Laws.{passed, failed}
 use Rattle.numbers.specs.declared.Refusal.the-variants.{Block20}
-use Rattle.nibbles.proofs.Laws.{under, over, inside}
+use Rattle.nibbles.proofs.Runs.{under, over, inside}
 use Rattle.nibbles.specs.Nibbles.{every, word}
 use Rattle.offsets.proofs.handed.Statement.{statement}
 use Rattle.offsets.proofs.handed.Tie as tie

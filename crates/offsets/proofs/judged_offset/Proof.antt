@@ -10,7 +10,7 @@ use Rattle.offsets.specs.Answers.{refusalIn}
 use Rattle.offsets.specs.Offsets.{offsetFor, offsetJudged}
 use Rattle.pins.specs.declared.Reading.the-variants.{Bad}
 use Rattle.pins.specs.Answers.{readingOf}
-use Rattle.nibbles.proofs.Laws.{bytes-below}
+use Rattle.nibbles.proofs.Bytes.{bytes-below}
 use Rattle.offsets.proofs.judged_offset.Statement.{statement}
 use Rattle.offsets.proofs.judged_offset.Tie as tie
 

@@ -8,7 +8,7 @@ use Rattle.offsets.specs.Answers.{textOf, Roomy}
 use Rattle.offsets.specs.Offsets.{offsetJudged, spelt}
 use Rattle.pins.specs.declared.Reading.{Reading}
 use Rattle.numbers.proofs.Laws.{does-as}
-use Rattle.nibbles.proofs.Laws.{bytes-below}
+use Rattle.nibbles.proofs.Bytes.{bytes-below}
 use Rattle.offsets.proofs.offset.Statement.{statement}
 use Rattle.offsets.proofs.offset.Tie as tie
 

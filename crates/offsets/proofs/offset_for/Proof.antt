@@ -8,7 +8,7 @@ use Rattle.ibm3624.proofs.Laws.{offset-length}
 use Rattle.ibm3624.specs.Ibm3624.{covers}
 use Rattle.pins.proofs.Laws.{count-of, count-bad}
 use Rattle.pins.specs.declared.Reading.the-variants.{Got}
-use Rattle.nibbles.proofs.Laws.{row-length}
+use Rattle.nibbles.proofs.Rows.{row-length}
 use Rattle.offsets.proofs.offset_for.Statement.{statement}
 use Rattle.offsets.proofs.offset_for.Tie as tie
 

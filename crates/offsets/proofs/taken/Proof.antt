@@ -10,7 +10,7 @@ use Rattle.offsets.specs.Offsets.{given}
 use Rattle.pins.proofs.Laws.{sized-held, sized-not, account-held, account-not}
 use Rattle.pins.specs.Answers.{rowOf}
 use Rattle.pins.specs.Pins.{sized}
-use Rattle.nibbles.proofs.Laws.{under, over, inside}
+use Rattle.nibbles.proofs.Runs.{under, over, inside}
 use Rattle.offsets.proofs.taken.Statement.{statement}
 use Rattle.offsets.proofs.taken.Tie as tie
 

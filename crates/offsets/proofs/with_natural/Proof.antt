@@ -14,7 +14,7 @@ use Rattle.blocks.specs.Blocks.{readRow}
 use Rattle.pins.proofs.Laws.{field-row, reading-got, reading-bad}
 use Rattle.pins.specs.declared.Pin.{Pin}
 use Rattle.pins.specs.Answers as pins
-use Rattle.nibbles.proofs.Laws.{row-length}
+use Rattle.nibbles.proofs.Rows.{row-length}
 use Rattle.nibbles.specs.Nibbles.{row, word}
 use Rattle.offsets.proofs.with_natural.Statement.{statement}
 use Rattle.offsets.proofs.with_natural.Tie as tie

@@ -7,7 +7,7 @@ use mathlib.Core.Path.{_≡_, sym, ap, _∙_}
 use lib.ListN.{length, drop}
 use borrow.Author.Tests.{not-true, not-false}
 use borrow.Author.Needs.{needs}
-use Rattle.nibbles.proofs.Laws.{lead-on, lead-stop, lead-over}
+use Rattle.nibbles.proofs.Runs.{lead-on, lead-stop, lead-over}
 use Rattle.alphabet.specs.Alphabet.{admits}
 use Rattle.nibbles.specs.Nibbles.{leading}
 use Rattle.pins.proofs.class_end.Statement.{statement}

@@ -4,7 +4,7 @@ use native.Mathlib.Nat.{mod-eq-of-lt}
 use native.Mathlib.Omega.{arith}
 use mathlib.Core.Path.{_∙_}
 use borrow.Author.Needs.{needs}
-use Rattle.nibbles.proofs.Laws.{word-row}
+use Rattle.nibbles.proofs.Rows.{word-row}
 use Rattle.nibbles.specs.Nibbles.{word}
 use Rattle.pins.proofs.field.Statement.{statement}
 use Rattle.pins.proofs.field.Tie as tie

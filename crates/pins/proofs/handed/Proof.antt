@@ -7,7 +7,7 @@ use Rattle.pins.proofs.Laws.{count-of, count-bad, reading-bad}
 use Rattle.pins.specs.Pins.{digit, pinLength, digitsHanded}
 use Rattle.numbers.proofs.Laws.{passed, failed}
 use Rattle.numbers.specs.declared.Refusal.the-variants.{Length24, Block20}
-use Rattle.nibbles.proofs.Laws.{inside-high}
+use Rattle.nibbles.proofs.Runs.{inside-high}
 use Rattle.nibbles.specs.Nibbles.{within, every}
 use Rattle.pins.proofs.handed.Statement.{statement}
 use Rattle.pins.proofs.handed.Tie as tie

@@ -9,7 +9,9 @@ use lib.Dec.{lit≤}
 use lib.ListN.{length, drop, getD, length-drop}
 use borrow.Author.Needs.{needs}
 use Rattle.pins.specs.declared.Reading.the-variants.{Got}
-use Rattle.nibbles.proofs.Laws.{word-next, word-none, word-under, every-at, every-next, every-none, every-below, below-weaken, over, inside}
+use Rattle.nibbles.proofs.Lists.{below-weaken}
+use Rattle.nibbles.proofs.Rows.{word-next, word-none, word-under}
+use Rattle.nibbles.proofs.Runs.{every-at, every-next, every-none, every-below, over, inside}
 use Rattle.pins.specs.Pins.{digit}
 use Rattle.nibbles.specs.Nibbles.{word, every}
 use Rattle.pins.proofs.packed.Statement.{statement}

@@ -1,7 +1,7 @@
 -- `pins::pin_length` meets its contract.
 -- Assumes nothing.
 use native.Mathlib.Omega.{arith}
-use Rattle.nibbles.proofs.Laws.{under, over, inside}
+use Rattle.nibbles.proofs.Runs.{under, over, inside}
 use Rattle.pins.proofs.pin_length.Statement.{statement}
 use Rattle.pins.proofs.pin_length.Tie as tie
 

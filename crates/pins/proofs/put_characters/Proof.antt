@@ -6,7 +6,8 @@ use mathlib.Core.List.{_++_}
 use mathlib.Core.Path.{_≡_, refl, sym, ap, _∙_}
 use lib.ListN.{length, take, drop, length-map}
 use borrow.Author.Needs.{needs}
-use Rattle.nibbles.proofs.Laws.{over-step, over-end, over-length, row-length, row-at-less, row-at-lt, map-at}
+use Rattle.nibbles.proofs.Lists.{over-step, over-end, over-length, map-at}
+use Rattle.nibbles.proofs.Rows.{row-length, row-at-less, row-at-lt}
 use Rattle.alphabet.specs.Alphabet.{characters}
 use Rattle.nibbles.specs.Nibbles.{row}
 use Rattle.pins.proofs.put_characters.Statement.{statement}

@@ -7,7 +7,8 @@ use mathlib.Core.Path.{_≡_, ap, _∙_}
 use lib.ListN.{length, drop, getD, length-map}
 use borrow.Author.Needs.{needs}
 use Rattle.alphabet.proofs.Laws.{value-below}
-use Rattle.nibbles.proofs.Laws.{word-next, word-room, word-none, map-at, map-below}
+use Rattle.nibbles.proofs.Lists.{map-at, map-below}
+use Rattle.nibbles.proofs.Rows.{word-next, word-room, word-none}
 use Rattle.alphabet.specs.Alphabet.{valueOf}
 use Rattle.nibbles.specs.Nibbles.{word}
 use Rattle.pins.proofs.values.Statement.{statement}

@@ -3,7 +3,7 @@
 use lib.Dec.{lit≤}
 use borrow.Author.Needs.{needs}
 use Rattle.pvv.proofs.Laws.{scans-taken, scans-pvv}
-use Rattle.nibbles.proofs.Laws.{row-below}
+use Rattle.nibbles.proofs.Rows.{row-below}
 use Rattle.nibbles.specs.Nibbles.{row}
 use Rattle.pvv.proofs.digits_of.Statement.{statement}
 use Rattle.pvv.proofs.digits_of.Tie as tie

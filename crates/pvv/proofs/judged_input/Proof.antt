@@ -11,7 +11,8 @@ use Rattle.pins.proofs.Laws.{reading-got, reading-bad}
 use Rattle.pins.specs.declared.Pin.{Pin}
 use Rattle.pins.specs.declared.Row.the-variants.{Held, Refused}
 use Rattle.pins.specs.Answers.{refusalIn}
-use Rattle.nibbles.proofs.Laws.{bytes-below, row-length, row-below}
+use Rattle.nibbles.proofs.Rows.{row-length, row-below}
+use Rattle.nibbles.proofs.Bytes.{bytes-below}
 use Rattle.nibbles.specs.Nibbles.{row, word}
 use Rattle.pvv.proofs.judged_input.Statement.{statement}
 use Rattle.pvv.proofs.judged_input.Tie as tie

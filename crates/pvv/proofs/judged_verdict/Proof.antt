@@ -12,7 +12,7 @@ use Rattle.pins.specs.declared.Row.the-variants.{Refused}
 use Rattle.pins.specs.Answers.{rowOf, refusalIn}
 use Rattle.numbers.specs.Numbers.{unless}
 use Rattle.numbers.specs.declared.Refusal.the-variants.{Unverified01}
-use Rattle.nibbles.proofs.Laws.{bytes-below}
+use Rattle.nibbles.proofs.Bytes.{bytes-below}
 use Rattle.nibbles.specs.Nibbles.{nibs, same}
 use Rattle.pvv.proofs.judged_verdict.Statement.{statement}
 use Rattle.pvv.proofs.judged_verdict.Tie as tie

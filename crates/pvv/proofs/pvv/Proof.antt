@@ -10,7 +10,7 @@ use Rattle.pvv.specs.Pvv.{pvvOf, pvvMade}
 use Rattle.pins.proofs.Laws.{sized-held, sized-not, block-row}
 use Rattle.alphabet.specs.Alphabet.{characters}
 use Rattle.numbers.proofs.Laws.{does-refuse, does-write}
-use Rattle.nibbles.proofs.Laws.{bytes-below}
+use Rattle.nibbles.proofs.Bytes.{bytes-below}
 use Rattle.nibbles.specs.Nibbles.{nibs}
 use Rattle.pvv.proofs.pvv.Statement.{statement}
 use Rattle.pvv.proofs.pvv.Tie as tie

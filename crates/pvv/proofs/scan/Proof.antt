@@ -10,7 +10,7 @@ use Rattle.pvv.proofs.Laws.{found, found-nil, taken-kept, step-taken, s
 use Rattle.pvv.specs.Answers.{Taken}
 use Rattle.pins.specs.Answers.{pinOf}
 use Rattle.blocks.specs.Answers.{digitsOf}
-use Rattle.nibbles.proofs.Laws.{row-length, row-below, row-at-lt}
+use Rattle.nibbles.proofs.Rows.{row-length, row-below, row-at-lt}
 use Rattle.nibbles.specs.Nibbles.{row}
 use Rattle.pvv.proofs.scan.Statement.{statement}
 use Rattle.pvv.proofs.scan.Tie as tie

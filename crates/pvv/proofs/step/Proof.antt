@@ -11,7 +11,7 @@ use borrow.Author.Needs.{needs}
 use Rattle.pvv.proofs.Laws.{found-one, found-none, taken-kept, taken-full, taken-one}
 use Rattle.pins.specs.Answers.{pinOf}
 use Rattle.blocks.specs.Answers.{digitsOf}
-use Rattle.nibbles.proofs.Laws.{inside, under, over}
+use Rattle.nibbles.proofs.Runs.{inside, under, over}
 use Rattle.pvv.proofs.step.Statement.{statement}
 use Rattle.pvv.proofs.step.Tie as tie
 

@@ -12,7 +12,7 @@ use Rattle.pins.proofs.Laws.{field-row, reading-got, reading-bad, pin-row}
 use Rattle.pins.specs.declared.Row.the-variants.{Held, Refused}
 use Rattle.pins.specs.Answers as answers
 use Rattle.pins.specs.Pins.{accountField}
-use Rattle.nibbles.proofs.Laws.{row-length}
+use Rattle.nibbles.proofs.Rows.{row-length}
 use Rattle.nibbles.specs.Nibbles.{row, word}
 use Rattle.translation.proofs.carried.Statement.{statement}
 use Rattle.translation.proofs.carried.Tie as tie

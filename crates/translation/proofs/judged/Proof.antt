@@ -14,7 +14,7 @@ use Rattle.pins.specs.Answers.{rowOf}
 use Rattle.pins.specs.Pins.{accountField, sized}
 use Rattle.formats.specs.declared.Format.{Format}
 use Rattle.numbers.specs.Numbers.{Outcome}
-use Rattle.nibbles.proofs.Laws.{bytes-below}
+use Rattle.nibbles.proofs.Bytes.{bytes-below}
 use Rattle.nibbles.specs.Nibbles.{nibs, row}
 use Rattle.translation.proofs.judged.Statement.{statement}
 use Rattle.translation.proofs.judged.Tie as tie

@@ -9,7 +9,7 @@ use Rattle.blocks.proofs.Laws.{Blocky, answered, roomy}
 use Rattle.blocks.specs.Answers.{Roomy, bytesOf}
 use Rattle.pins.specs.declared.Row.{Row}
 use Rattle.numbers.proofs.Laws.{does-as}
-use Rattle.nibbles.proofs.Laws.{bytes-below}
+use Rattle.nibbles.proofs.Bytes.{bytes-below}
 use Rattle.translation.proofs.translate.Statement.{statement}
 use Rattle.translation.proofs.translate.Tie as tie
 

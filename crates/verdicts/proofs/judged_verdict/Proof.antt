@@ -12,7 +12,7 @@ use Rattle.ibm3624.specs.Ibm3624.{offsetPresented}
 use Rattle.pins.proofs.Laws.{reading-bad}
 use Rattle.pins.specs.declared.Row.the-variants.{Refused}
 use Rattle.pins.specs.Answers.{rowOf}
-use Rattle.nibbles.proofs.Laws.{bytes-below}
+use Rattle.nibbles.proofs.Bytes.{bytes-below}
 use Rattle.verdicts.proofs.judged_verdict.Statement.{statement}
 use Rattle.verdicts.proofs.judged_verdict.Tie as tie
 

@@ -10,7 +10,7 @@ use Rattle.blocks.specs.Answers.{digitsOf}
 use Rattle.pins.proofs.Laws.{reading-got, reading-bad}
 use Rattle.pins.specs.declared.Row.the-variants.{Held}
 use Rattle.pins.specs.declared.Pin.{Pin}
-use Rattle.nibbles.proofs.Laws.{word-none}
+use Rattle.nibbles.proofs.Rows.{word-none}
 use Rattle.verdicts.proofs.verdict_on.Statement.{statement}
 use Rattle.verdicts.proofs.verdict_on.Tie as tie
 

@@ -8,7 +8,7 @@ use lib.ListN.{length, take, drop, length-map, length-drop}
 use lib.Seq.{take-at}
 use borrow.Author.Needs.{needs}
 use Rattle.nibbles.specs.Nibbles.{row}
-use Rattle.nibbles.proofs.Laws.{row-length}
+use Rattle.nibbles.proofs.Rows.{row-length}
 use Rattle.alphabet.specs.Alphabet.{characters}
 use Rattle.weak.specs.Weak.{isOn, weakPins}
 use Rattle.weak.specs.Answers.{lists, Lies}
