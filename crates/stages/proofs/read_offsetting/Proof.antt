@@ -96,7 +96,7 @@ returns-3 c =
     rw (
       field-found (a .field) (a .start .at) _ (number 4 12 Field15) s _ account (value-of-found _ _ _ _ (sym (c .before .before .before .before .before .before .before .before .before .before .checked .given .1) ∙ c .before .before .before .before .before .before .before .before .before .before .before .before .number .ensures)),
       field-found (a .field + 1) (account .at) _ (run Digit Field15 Field15 12) s _ table (value-of-found _ _ _ _ (sym (c .before .before .before .before .before .before .digits .given .1) ∙ c .before .before .before .before .before .before .before .before .run .ensures)),
-      field-bad (a .field + 2) (table .at) _ (run Digit Field15 Table25 16) s _ (value-of-bad _ _ _ (sym told ∙ c .before .before .before .before .run2 .ensures)),
+      field-bad (a .field + 2) (table .at) _ (run Digit Field15 Table25 16) s _ (value-of-bad (table .at) (run Digit Field15 Table25 16 (drop (table .at) s)) _ (sym told ∙ c .before .before .before .before .run2 .ensures)),
     )
     (ap Bad (c .fault-at3 .ensures ∙ ap (λ (q : Refusal). record { refusal = q; field = a .field + 2; place = table .at }) (c .before .refusal .ensures ∙ ap refusalIn told)))
 
