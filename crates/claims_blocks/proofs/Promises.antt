@@ -1,4 +1,4 @@
--- One answer, and the cores that are rejected.
+-- The cores that are rejected.
 -- Assumes nothing.
 use Prim.Native.Nat.{ℕ, zero, suc, _≤_}
 use native.Mathlib.Omega.{arith}
@@ -12,22 +12,12 @@ use Rattle.alphabet.specs.Alphabet.{allOf, valueOf}
 use Rattle.numbers.specs.Numbers.{Outcome, done}
 use Rattle.numbers.specs.Promise.{Does, quietly}
 use Rattle.numbers.specs.declared.Reply.{Reply}
-use Rattle.numbers.proofs.Laws.{once}
 use Rattle.formats.specs.Formats.{codeOf}
 use Rattle.blocks.specs.Blocks.{contents, readRow, writeRow, readBlock, writeBlock}
 use Rattle.translation.specs.Translation.{pairOf, translateBlock}
 use Rattle.claims_blocks.specs.Claims.{IsBytes}
 use Rattle.claims_blocks.specs.Figures.{usualAccount, usualPin, longPin, blockP1, blockP6}
-use Rattle.claims_blocks.specs.Promises.{ReadOnce, WriteOnce, TranslateOnce, zeros, Only00, Apart, NotRefusing, NotFixed, NotSilent}
-
-pub read-once : ReadOnce
-read-once code block account before r r′ after after′ d e = once d e
-
-pub write-once : WriteOnce
-write-once code pin account fill before r r′ after after′ d e = once d e
-
-pub translate-once : TranslateOnce
-translate-once restricted from to block account fill before r r′ after after′ d e = once d e
+use Rattle.claims_blocks.specs.Promises.{zeros, Only00, Apart, NotRefusing, NotFixed, NotSilent}
 
 -- ---- refusing, and a fixed answer
 

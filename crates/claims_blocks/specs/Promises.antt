@@ -1,4 +1,4 @@
--- What the promises of the three calls settle, and which cores they reject.
+-- The numbers that the three calls answer, and which cores their promises reject.
 use Prim.Native.Nat.{ℕ, _≤_}
 use mathlib.Core.Path.{_≡_}
 use mathlib.Core.List.{List, [], _∷_}
@@ -23,22 +23,6 @@ writes code pin account fill before = quietly (writeBlock code pin account fill 
 -- what the call that translates says
 abbrev pub translates : Bool → ℕ → ℕ → List ℕ → List ℕ → List ℕ → List ℕ → Said ℕ
 translates restricted from to block account fill before = quietly (translateBlock restricted from to block account fill (length before))
-
--- no second answer: two replies with the buffers they left that fit one promise are the same
-abbrev pub OneAnswer : {A : Type 0} → Said A → List A → Type 0
-OneAnswer {A} said before = (r r′ : Reply) (after after′ : List A) → Does said before r after → Does said before r′ after′ → (r ≡ r′) × (after ≡ after′)
-
--- for every input of the call that reads a block
-abbrev pub ReadOnce : Type 0
-ReadOnce = (code : ℕ) (block account before : List ℕ) → OneAnswer (reads code block account before) before
-
--- for every input of the call that writes a block
-abbrev pub WriteOnce : Type 0
-WriteOnce = (code : ℕ) (pin account fill before : List ℕ) → OneAnswer (writes code pin account fill before) before
-
--- for every input of the call that translates
-abbrev pub TranslateOnce : Type 0
-TranslateOnce = (restricted : Bool) (from to : ℕ) (block account fill before : List ℕ) → OneAnswer (translates restricted from to block account fill before) before
 
 -- a number that stands in a list
 abbrev pub listed : ℕ → List ℕ → Bool

@@ -1,4 +1,3 @@
-pub mod Promises
 pub mod Ahead
 pub mod Before
 pub mod Places

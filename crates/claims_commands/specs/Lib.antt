@@ -1,4 +1,3 @@
-pub mod Promises
 pub mod Numbers
 pub mod Runs
 pub mod Claims

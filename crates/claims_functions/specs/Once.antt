@@ -1,4 +1,6 @@
--- What it means that the contract of a function admits one answer.
+-- What it means that the contract of a function admits one answer. The checker makes of each function f of a crate X the modules
+-- that a caller's proof reads: `X.f.ended` is f's signature with the parameters that are still there at exit, and
+-- `X.f.Reads.Learnt` is what f's `ensures` clauses say of the arguments, the answer and those parameters.
 use mathlib.Core.Path.{_≡_}
 use contract.Lifetimes.{Lfts}
 use denote.Triple.Entry.{Args, Res}

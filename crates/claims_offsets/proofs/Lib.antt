@@ -2,7 +2,6 @@ pub mod Figures
 pub mod Verdicts
 pub mod Texts
 pub mod Digits
-pub mod Promises
 pub mod Converse
 pub mod Refused
 pub mod Counts
