@@ -29,8 +29,8 @@ impl Class {
     }
 }
 
-// Whether every character from `from` to before `to` is of the class. It goes on behind a wrong one: turns that do not hang
-// on one another are taken sixteen at a time.
+// Whether every character from `from` to before `to` is of the class. It goes on behind a wrong one: the compiler takes
+// turns that do not hang on one another sixteen at a time.
 pub fn all_of(class: Class, s: &[u8], from: usize, to: usize) -> bool
     requires { ⌜ (from ≤ to) × (to ≤ length (now s)) ⌝ }
     ensures { λ r. ⌜ r ≡ allOf class (slice from to (now (s .entry))) ⌝ }

@@ -2,7 +2,7 @@
 ghost use mathlib.Core.Path.{_≡_};
 ghost use mathlib.Core.List.{map};
 ghost use Prim.Native.Nat.{_+_, _≤_};
-ghost use lib.ListN.{length, drop};
+ghost use lib.ListN.{length};
 ghost use Rattle.nibbles.specs.Nibbles.{word, row};
 ghost use Rattle.alphabet.specs.Alphabet.{valueOf};
 ghost use Rattle.blocks.specs.Answers.{blockOf};

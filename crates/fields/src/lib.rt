@@ -59,7 +59,7 @@ pub fn fault_at(refusal: Refusal, field: usize, cursor: Cursor) -> Fault
     }
 }
 
-// The fault that a stage's `fault` gives where it is asked of what was read.
+// The fault that is given where one is asked for and there is none.
 pub fn no_fault() -> Fault
     ensures { λ r. ⌜ r ≡ noFault ⌝ }
 {

@@ -1,6 +1,5 @@
 // The settings of the box, by value.
 ghost use mathlib.Core.Path.{_≡_};
-ghost use mathlib.Core.Bool.{Bool};
 ghost use Rattle.settings.specs.Settings.{usually, headed, restrictedTo, variably};
 
 pub struct Settings {

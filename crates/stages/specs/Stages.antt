@@ -10,7 +10,7 @@ use Rattle.numbers.specs.Numbers.{andThen, unless}
 use Rattle.numbers.specs.declared.Refusal.the-variants.{Field15, Table25, NotHere69}
 use Rattle.formats.specs.Formats.{codeOf, formatOf, is01or47}
 use Rattle.formats.specs.declared.Format.{Format}
-use Rattle.validation.specs.Validation.{letterP, isValidation}
+use Rattle.validation.specs.Validation.{letterP, templateWidth, wholeWidth, isValidation}
 use Rattle.validation.specs.Answers.{shapeOf, shapeWidth}
 use Rattle.validation.specs.declared.Shape.{Shape}
 use Rattle.fields.specs.Fields.{Found, Stage, read, field, run, number, marked}
@@ -56,7 +56,7 @@ sealed first restricted s block =
 
 -- "12 characters, eleven hex and exactly one N; or P + 16 hex"
 abbrev pub validationWidth : List ℕ → ℕ
-validationWidth cs = cond (marked letterP cs) 17 12
+validationWidth cs = cond (marked letterP cs) wholeWidth templateWidth
 
 -- what is read is their shape, with the place of the N
 unfoldable pub validationField : List ℕ → Found Shape

@@ -3,7 +3,6 @@
 ghost use mathlib.Core.Path.{_≡_};
 ghost use Prim.Native.Nat.{_≤_};
 ghost use lib.ListN.{drop};
-ghost use Rattle.fields.specs.Answers.{valueFrom};
 ghost use Rattle.stages.specs.Stages.{keys, allows, formatField, sealed, validationWidth, validationField, offsetting, weak};
 ghost use Rattle.stages.specs.Answers.{keysRead, keysFault, sealedRead, sealedFault, offsettingRead, offsettingFault, weakStage, weakFault, formatRead, formatRefusal, shapeRead};
 use alphabet::Class;
@@ -215,9 +214,9 @@ fn validation_width(cursor: Cursor, command: &[u8]) -> usize
 {
     let marked = cursor.mark(command, b'P');
     let Mark::Behind(_) = marked else {
-        return 12;
+        return Shape::TEMPLATE_WIDTH;
     };
-    17
+    Shape::WHOLE_WIDTH
 }
 
 fn validation_field(cursor: Cursor, command: &[u8]) -> ShapeRead

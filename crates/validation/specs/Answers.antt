@@ -4,7 +4,7 @@ use mathlib.Core.List.{List}
 use mathlib.Core.Bool.{cond}
 use lib.ListN.{getD}
 use lib.Dec.{eqb}
-use Rattle.validation.specs.Validation.{letterP, hexEnd, isTemplate, isWhole}
+use Rattle.validation.specs.Validation.{letterP, templateWidth, wholeWidth, hexEnd, isTemplate, isWhole}
 use Rattle.validation.specs.declared.Shape.{Shape}
 use Rattle.validation.specs.declared.Shape.the-variants.{Template, Whole, Neither}
 
@@ -17,6 +17,6 @@ shapeOf cs =
 
 -- how many characters each has
 abbrev pub shapeWidth : Shape → ℕ
-shapeWidth (Template at) = 12
-shapeWidth Whole = 17
+shapeWidth (Template at) = templateWidth
+shapeWidth Whole = wholeWidth
 shapeWidth Neither = 0

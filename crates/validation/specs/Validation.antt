@@ -18,13 +18,20 @@ letterP = 0x50
 abbrev pub letterN : ℕ
 letterN = 0x4E
 
+-- how many characters each kind has
+abbrev pub templateWidth : ℕ
+templateWidth = 12
+
+abbrev pub wholeWidth : ℕ
+wholeWidth = 17
+
 -- where the hex characters at the beginning end
 abbrev pub hexEnd : List ℕ → ℕ
 hexEnd cs = length (leading (admits CapitalHex) cs)
 
 -- "12 characters, eleven hex and exactly one N": hex characters, an N, and hex characters again
 abbrev pub isTemplate : List ℕ → Bool
-isTemplate cs = eqb (length cs) 12 && (eqb (getD cs (hexEnd cs) 0) letterN && allOf CapitalHex (drop (suc (hexEnd cs)) cs))
+isTemplate cs = eqb (length cs) templateWidth && (eqb (getD cs (hexEnd cs) 0) letterN && allOf CapitalHex (drop (suc (hexEnd cs)) cs))
 
 -- "N is replaced by the last five account digits"
 abbrev pub replaced : List ℕ → List ℕ → List ℕ
@@ -32,7 +39,7 @@ replaced account cs = map valueOf (take (hexEnd cs) cs) ++ drop 7 account ++ map
 
 -- "or P + 16 hex"
 abbrev pub isWhole : List ℕ → Bool
-isWhole cs = eqb (length cs) 17 && allOf CapitalHex (drop 1 cs)
+isWhole cs = eqb (length cs) wholeWidth && allOf CapitalHex (drop 1 cs)
 
 -- where this fails, "validation data malformed"
 abbrev pub isValidation : List ℕ → Bool

@@ -39,7 +39,7 @@ fn with_account(account: u64, s: &[u8], at: usize) -> u64
 fn template(s: &[u8]) -> Shape
     ensures { λ r. ⌜ r ≡ cond (isTemplate (now (s .entry))) (Shape.Template (hexEnd (now (s .entry)))) Shape.Neither ⌝ }
 {
-    if s.len() != 12 {
+    if s.len() != Shape::TEMPLATE_WIDTH {
         return Shape::Neither;
     }
     let at = pins::class_end(Class::CapitalHex, s);
@@ -59,7 +59,7 @@ fn template(s: &[u8]) -> Shape
 fn whole(s: &[u8]) -> Shape
     ensures { λ r. ⌜ r ≡ cond (isWhole (now (s .entry))) Shape.Whole Shape.Neither ⌝ }
 {
-    if s.len() != 17 {
+    if s.len() != Shape::WHOLE_WIDTH {
         return Shape::Neither;
     }
     if !alphabet::all_of(Class::CapitalHex, s, 1, s.len()) {
@@ -69,6 +69,12 @@ fn whole(s: &[u8]) -> Shape
 }
 
 impl Shape {
+    // "12 characters, eleven hex and exactly one N"
+    pub const TEMPLATE_WIDTH: usize = 12;
+
+    // "P + 16 hex"
+    pub const WHOLE_WIDTH: usize = 17;
+
     // The one place where validation data are judged.
     pub fn of(characters: &[u8]) -> Shape
         ensures { λ r. ⌜ r ≡ shapeOf (now (characters .entry)) ⌝ }
@@ -87,8 +93,8 @@ impl Shape {
         ensures { λ r. ⌜ r ≡ shapeWidth self ⌝ }
     {
         match self {
-            Shape::Template(_) => 12,
-            Shape::Whole => 17,
+            Shape::Template(_) => Shape::TEMPLATE_WIDTH,
+            Shape::Whole => Shape::WHOLE_WIDTH,
             Shape::Neither => 0,
         }
     }
