@@ -5,12 +5,13 @@
  * counted in exchanges.
  *
  * labhost record FILE: writes the script to stdout with what the calls do
- * today in its `asks` and `answers` lines, and everything else as it was. A
- * recorded script says what the box does: that it is right, only a reading of
- * the paper says.
+ * today in its `asks` and `answers` lines, and everything else as it was, but
+ * for blanks and carriage returns at the end of a line. A recorded script says
+ * what the box does: that it is right, only a reading of the paper says.
  *
  * The form of a script is told in script.h. All of a script is read before
- * anything is played or recorded. Where a line of any of them is malformed,
+ * anything is played or recorded, so it must be a file that can be read twice.
+ * Where a line of any of them is malformed,
  * nothing is: 'FILE:LINE: what is wrong' goes to stderr. Status 0: all went as
  * expected; 1: something did not; 2: a script or the words were malformed.
  */
@@ -72,20 +73,27 @@ static void play_exchange(const char *path, struct score *score)
 	putchar('\n');
 }
 
+/* A script that was well formed when it was checked is not any more. */
+static bool tell_changed(const char *path)
+{
+	fprintf(stderr, "%s: it reads otherwise than before: it must be a file that stays as it is\n", path);
+	return false;
+}
+
 /* Plays a script that was checked. False: it has become another since. */
 static bool play_file(const char *path, struct score *score)
 {
 	enum script_step step;
 
 	if (!script_open(&script, path, false))
-		return false;
+		return tell_changed(path);
 	do {
 		step = script_next(&script);
 		if (step == SCRIPT_ANSWERS)
 			play_exchange(path, score);
 	} while (step != SCRIPT_END && step != SCRIPT_FAULT);
 	script_close(&script);
-	return step == SCRIPT_END;
+	return step == SCRIPT_END || tell_changed(path);
 }
 
 static int play(char **paths, int len)
@@ -124,15 +132,24 @@ static int record(const char *path)
 {
 	if (!check(path, true))
 		return STATUS_MALFORMED;
-	if (!script_open(&script, path, true))
-		return STATUS_MALFORMED;
-	enum script_step step = script_next(&script);
-	while (step != SCRIPT_END && step != SCRIPT_FAULT) {
-		record_line(step);
+	enum script_step step = SCRIPT_FAULT;
+	if (script_open(&script, path, true)) {
 		step = script_next(&script);
+		while (step != SCRIPT_END && step != SCRIPT_FAULT) {
+			record_line(step);
+			step = script_next(&script);
+		}
+		script_close(&script);
 	}
-	script_close(&script);
-	return step == SCRIPT_END ? 0 : STATUS_FAILED;
+	if (step != SCRIPT_END) {
+		tell_changed(path);
+		return STATUS_FAILED;
+	}
+	if (fflush(stdout) != 0 || ferror(stdout)) {
+		fputs("the recorded script cannot be written whole\n", stderr);
+		return STATUS_FAILED;
+	}
+	return 0;
 }
 
 int main(int argc, char **argv)
