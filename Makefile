@@ -16,7 +16,7 @@ archive header reference: setup
 claims:
 	.ci/step $@
 
-host example install installed: archive
+host example installed: archive
 	.ci/step $@
 
 vectors compare compare-offsets compare-commands lessons lab clean-c: host
@@ -30,7 +30,8 @@ bench: archive
 	.ci/setup $@
 	.ci/step $@
 
-uninstall:
+# what was built is installed as it is, so that root need build nothing
+install uninstall:
 	.ci/step $@
 
 fmt:
