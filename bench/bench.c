@@ -62,8 +62,7 @@ static void show(const struct load *load, enum call call, const struct figures *
 	printf("%6.2f\n", found->ratio);
 }
 
-/* Measures a load; `ns` gets our time for each call. */
-static bool go_through(const struct load *load, struct summary *summary, double *ns)
+static bool go_through(const struct load *load, struct summary *summary)
 {
 	for (int n = 0; n < CALLS; n++) {
 		enum call call = (enum call)n;
@@ -75,42 +74,40 @@ static bool go_through(const struct load *load, struct summary *summary, double 
 		const struct figures found = measured(call, load);
 		show(load, call, &found, summary);
 		measure_stack(call, load, summary);
-		ns[call] = found.ns[OURS];
 		if (found.ratio > summary->highest_ratio)
 			summary->highest_ratio = found.ratio;
 	}
 	return true;
 }
 
-/* How our time grows from the shortest command to the longest that is taken. */
-static void show_growth(double ns[GROWTH][CALLS])
+/* How our time grows from the shortest command on. */
+static void show_growth(const struct load *longer)
 {
-	size_t last = 0;
+	const struct load *shortest = &growth[0];
 
-	while (last + 1 < GROWTH && growth[last + 1].taken)
-		last++;
-	printf("from %zu to %zu bytes: length times %.1f", growth[0].commands->len,
-		growth[last].commands->len, (double)growth[last].commands->len / (double)growth[0].commands->len);
+	printf("from %zu to %s: length times %.1f", shortest->commands->len, longer->name,
+		(double)longer->commands->len / (double)shortest->commands->len);
 	for (int call = 0; call < CALLS; call++)
-		printf(", time to %s times %.1f", call_names[call], ns[last][call] / ns[0][call]);
+		printf(", time to %s times %.1f", call_names[call],
+			times_as_long((enum call)call, longer, shortest));
 	printf("\n");
 }
 
 int main(int argc, char **argv)
 {
 	struct summary summary = { .shows_ns = argc < 2 || strcmp(argv[1], "ratio") != 0 };
-	double load_ns[CALLS], growth_ns[GROWTH][CALLS];
 
 	loads_make();
 	printf("%-34s %-6s %s  ratio\n", "load", "call", summary.shows_ns ? " ours ns  their ns" : "");
 	for (size_t i = 0; i < LOADS; i++)
-		if (!go_through(&loads[i], &summary, load_ns))
+		if (!go_through(&loads[i], &summary))
 			return EXIT_FAILURE;
 	for (size_t i = 0; i < GROWTH; i++)
-		if (!go_through(&growth[i], &summary, growth_ns[i]))
+		if (!go_through(&growth[i], &summary))
 			return EXIT_FAILURE;
-	show_growth(growth_ns);
-	printf("stack: ours %zu bytes, the reference's %zu\n", summary.stack[OURS], summary.stack[REFERENCE]);
+	for (size_t i = 1; i < GROWTH; i++)
+		show_growth(&growth[i]);
+	printf("stack of these calls: ours %zu bytes, the reference's %zu\n", summary.stack[OURS], summary.stack[REFERENCE]);
 	printf("highest ratio: %.2f\n", summary.highest_ratio);
 	return summary.highest_ratio <= 1.0 && summary.stack[OURS] < MOST_STACK ? EXIT_SUCCESS : EXIT_FAILURE;
 }

@@ -1,4 +1,4 @@
-#include "calls.h"
+#include "cores.h"
 
 #include <string.h>
 

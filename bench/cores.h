@@ -2,8 +2,8 @@
  * The two calls of each core, ours and the reference's, under one shape, so
  * that one loop times both.
  */
-#ifndef BENCH_CALLS_H
-#define BENCH_CALLS_H
+#ifndef BENCH_CORES_H
+#define BENCH_CORES_H
 
 #include "loads.h"
 #include "quillgimlet.h"

@@ -4,7 +4,7 @@
 #include <string.h>
 #include <ucontext.h>
 
-#define SIZE 262144u
+#define SIZE 65536u
 #define PAINT 0xA5
 
 static _Alignas(64) uint8_t stack[SIZE];

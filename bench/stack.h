@@ -7,7 +7,8 @@
 
 #include <stddef.h>
 
-/* The bytes of stack that `call(of)` takes, its own frame among them. */
+/* The bytes of stack down to the lowest that `call(of)` wrote, its own frame
+ * among them. */
 size_t stack_used(void (*call)(void *of), void *of);
 
 #endif

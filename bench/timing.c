@@ -15,7 +15,8 @@ static double now(void)
 	return (double)at.tv_sec * 1e9 + (double)at.tv_nsec;
 }
 
-/* Nanoseconds a call, over so many goes through the load. */
+/* Nanoseconds a call, over so many goes through the load. The buffer for the
+ * answer is not cleared between them: each call writes what it writes. */
 static double timed(enum core core, enum call call, const struct load *load, size_t goes)
 {
 	static volatile uint32_t kept; /* so that no call is left out as unused */
@@ -44,22 +45,52 @@ static double middle_of(double *values)
 	return values[ROUNDS / 2];
 }
 
-struct figures measured(enum call call, const struct load *load)
+/* A core's call over a load, and how many goes make a round of it. */
+struct runner {
+	enum core core;
+	enum call call;
+	const struct load *load;
+	size_t goes;
+};
+
+static struct runner runner_of(enum core core, enum call call, const struct load *load)
 {
-	double ns[CORES][ROUNDS], ratio[ROUNDS];
-	double pilot = timed(REFERENCE, call, load, 100) * (double)load->count;
-	size_t goes = 1 + (size_t)(ROUND_NS / pilot);
-	struct figures found;
+	double pilot = timed(core, call, load, 100) * (double)load->count;
+
+	return (struct runner){ core, call, load, 1 + (size_t)(ROUND_NS / pilot) };
+}
+
+static double round_of(const struct runner *runner)
+{
+	return timed(runner->core, runner->call, runner->load, runner->goes);
+}
+
+/* Rounds of two runners, each first in turn. */
+static struct figures raced(const struct runner *one, const struct runner *other)
+{
+	double ns[2][ROUNDS], ratio[ROUNDS];
+	const struct runner *const runners[2] = { one, other };
 
 	for (int r = 0; r < ROUNDS; r++) {
-		enum core first = r % 2 == 0 ? OURS : REFERENCE, second = r % 2 == 0 ? REFERENCE : OURS;
+		int first = r % 2;
 
-		ns[first][r] = timed(first, call, load, goes);
-		ns[second][r] = timed(second, call, load, goes);
-		ratio[r] = ns[OURS][r] / ns[REFERENCE][r];
+		ns[first][r] = round_of(runners[first]);
+		ns[1 - first][r] = round_of(runners[1 - first]);
+		ratio[r] = ns[0][r] / ns[1][r];
 	}
-	found.ratio = middle_of(ratio);
-	found.ns[OURS] = middle_of(ns[OURS]);
-	found.ns[REFERENCE] = middle_of(ns[REFERENCE]);
-	return found;
+	return (struct figures){ { middle_of(ns[0]), middle_of(ns[1]) }, middle_of(ratio) };
+}
+
+struct figures measured(enum call call, const struct load *load)
+{
+	const struct runner ours = runner_of(OURS, call, load), theirs = runner_of(REFERENCE, call, load);
+
+	return raced(&ours, &theirs);
+}
+
+double times_as_long(enum call call, const struct load *load, const struct load *other)
+{
+	const struct runner one = runner_of(OURS, call, load), two = runner_of(OURS, call, other);
+
+	return raced(&one, &two).ratio;
 }
