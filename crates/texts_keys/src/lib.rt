@@ -1,0 +1,1 @@
+// What key types, keys and LMK ids are, as texts, and that their readers are inverse to them.
