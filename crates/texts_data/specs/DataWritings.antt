@@ -1,0 +1,41 @@
+-- How formats, validation data and weak lists are written, with what the readers read of each.
+use Prim.Native.Nat.{ℕ, _+_}
+use mathlib.Core.Path.{_≡_}
+use mathlib.Core.List.{List, [], _∷_}
+use mathlib.Core.Bool.{Bool, false}
+use lib.ListN.{length}
+use Rattle.alphabet.specs.Alphabet.{begins}
+use Rattle.formats.specs.declared.Format.{Format}
+use Rattle.validation.specs.declared.Shape.{Shape}
+use Rattle.validation.specs.declared.Shape.the-variants.{Template, Whole}
+use Rattle.weak.specs.Weak.{noneAt}
+use Rattle.weak.specs.declared.Weak.{Weak}
+use Rattle.texts.specs.Texts.{Optional, absent, present, optionalText}
+use Rattle.texts.specs.Exact.{Writing}
+use Rattle.texts_data.specs.DataTexts.{formatText, Allows, Validation, withN, withP, validationText, IsValidation, WeakList, noPins, pins, weakText, IsWeakList}
+
+-- a format that is allowed
+abbrev pub formats : Bool → Writing Format
+formats restricted = record { Part = Format; fine = λ f _. Allows restricted f; text = formatText; value = λ f. f }
+
+-- of validation data their shape is read, with the place of the N
+abbrev pub shape : Validation → Shape
+shape (withN before behind) = Template (length before)
+shape (withP cs) = Whole
+
+abbrev pub validations : Writing Shape
+validations = record { Part = Validation; fine = λ v _. IsValidation v; text = validationText; value = shape }
+
+-- of a weak list that begins at a place count, length and the place of its entries are read: they stand behind mark, count and length
+abbrev pub weakIn : ℕ → Optional WeakList → Weak
+weakIn at absent = noneAt at
+weakIn at (present noPins) = noneAt at
+weakIn at (present (pins size es)) = record { count = length es; length = size; list = at + 5 }
+
+-- where there is none the next character is not its mark
+abbrev pub weakFine : ℕ → Optional WeakList → List ℕ → Type 0
+weakFine mark absent rest = begins (mark ∷ []) rest ≡ false
+weakFine mark (present w) rest = IsWeakList w
+
+abbrev pub weakLists : ℕ → ℕ → Writing Weak
+weakLists mark at = record { Part = Optional WeakList; fine = weakFine mark; text = optionalText (mark ∷ []) weakText; value = weakIn at }

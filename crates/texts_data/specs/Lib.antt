@@ -1,0 +1,2 @@
+pub mod DataTexts
+pub mod DataWritings
