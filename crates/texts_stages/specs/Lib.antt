@@ -1,0 +1,2 @@
+pub mod StageTexts
+pub mod StageWritings

@@ -1,0 +1,63 @@
+-- How the stages are written, with what is read of each where it begins at a place: places, and the few values that are kept.
+use Prim.Native.Nat.{ℕ, _+_}
+use mathlib.Core.Path.{_≡_}
+use mathlib.Core.List.{List, [], _++_}
+use mathlib.Core.Bool.{Bool}
+use lib.ListN.{length}
+use Rattle.keys.specs.declared.Use.{Use}
+use Rattle.stages.specs.Stages.{part, validationIn}
+use Rattle.stages.specs.declared.Keys.{Keys}
+use Rattle.stages.specs.declared.Sealed.{Sealed}
+use Rattle.stages.specs.declared.Offsetting.{Offsetting}
+use Rattle.texts.specs.Texts.{asTwoDigits}
+use Rattle.texts.specs.Exact.{Writing}
+use Rattle.texts_keys.specs.KeyTexts.{typeText, keyText, ownIds, AllSame, idText}
+use Rattle.texts_keys.specs.KeyWritings.{ruleFor, lmkOf, idsRead}
+use Rattle.texts_data.specs.DataTexts.{validationText}
+use Rattle.texts_data.specs.DataWritings.{shape}
+use Rattle.texts_stages.specs.StageTexts.{KeyFields, keysText, AreKeys, SealedFields, sealedText, AreSealed, InputFields, inputsText, AreInputs, EndFields, endText, AreEnd}
+
+-- of keys: their LMK ids, and where the second begins
+abbrev pub keysPlaced : ℕ → ℕ → KeyFields → Keys
+keysPlaced first at k = record {
+  first = lmkOf (k .first);
+  second = lmkOf (k .second);
+  field = first + 2;
+  place = at + length (typeText (k .type)) + length (keyText (k .first));
+}
+
+abbrev pub keysAt : ℕ → Use → Use → ℕ → Writing Keys
+keysAt first use₁ use₂ at = record { Part = KeyFields; fine = λ k _. AreKeys (ruleFor use₁) (ruleFor use₂) k; text = keysText; value = keysPlaced first at }
+
+-- of block and format: where the block begins, and the format
+abbrev pub sealedPlaced : ℕ → SealedFields → Sealed
+sealedPlaced at p = record { block = at; format = p .format }
+
+abbrev pub sealedAt : Bool → ℕ → Writing Sealed
+sealedAt restricted at = record { Part = SealedFields; fine = λ p _. AreSealed restricted p; text = sealedText; value = sealedPlaced at }
+
+-- of the inputs: where each begins, the check length, and the shape of the validation data
+abbrev pub inputsPlaced : ℕ → InputFields → Offsetting
+inputsPlaced at p =
+    let account = at + length (asTwoDigits (p .check)) in
+    let table = account + length (p .account) in
+    record { check = p .check; account = account; table = table; validation = table + length (p .table); shape = shape (p .validation) }
+
+abbrev pub inputsAt : ℕ → Writing Offsetting
+inputsAt at = record { Part = InputFields; fine = λ p _. AreInputs p; text = inputsText; value = inputsPlaced at }
+
+-- they stand there
+pub record InputsStand (s : List ℕ) (o : Offsetting) (p : InputFields) : Type 0 where
+  pub account : part s (o .account) 12 ≡ p .account
+  pub table : part s (o .table) 16 ≡ p .table
+  pub validation : validationIn s o ≡ validationText (p .validation)
+
+-- of the end, which has nothing behind it: where the trailer's mark is, or the command's end. "At the end, LMK ids present […] must all
+-- agree": those that were read before, and its own
+abbrev pub endAt : Keys → ℕ → Writing ℕ
+endAt ks at = record {
+  Part = EndFields;
+  fine = λ p rest. (rest ≡ []) × AreEnd p × AllSame (idsRead (ks .first) ++ (idsRead (ks .second) ++ ownIds (p .id)));
+  text = endText;
+  value = λ p. at + length (idText (p .id));
+}

@@ -1,0 +1,1 @@
+// What the stages of a command are, as texts, and that their readers are inverse to them.
