@@ -48,7 +48,7 @@ use Rattle.claims_commands.proofs.Fields.{In, fieldNumbers, either-only
 -- ---- numbers that stand in a list
 
 -- what passes at every number of a list passes at each that stands in it
-listed-passes : (p : ℕ → Bool) (n : ℕ) (ms : List ℕ) → every p ms ≡ true → listed n ms ≡ true → p n ≡ true
+pub listed-passes : (p : ℕ → Bool) (n : ℕ) (ms : List ℕ) → every p ms ≡ true → listed n ms ≡ true → p n ≡ true
 unfolding every
 listed-passes p n [] h e = absurd (false≢true e)
 listed-passes p n (m ∷ ms) h e = by-test (eqb n m) refl e (listed-passes p n ms (and-right (p m) (every p ms) h))

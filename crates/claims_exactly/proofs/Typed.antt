@@ -1,0 +1,83 @@
+-- The commands that are typed, computed.
+-- Assumes nothing.
+use native.Mathlib.Omega.{arith}
+use mathlib.Core.Path.{refl}
+use mathlib.Core.Logic.{inl, inr}
+use mathlib.Core.Bool.{Bool, true, false}
+use Rattle.nibbles.specs.Nibbles.{packs}
+use Rattle.alphabet.specs.Alphabet.{allOf, valueOf}
+use Rattle.settings.specs.Settings.{usually}
+use Rattle.texts.specs.Characters.{printed}
+use Rattle.texts_keys.specs.KeyTexts.{pinKeyRule, pvkRule, IsBlock}
+use Rattle.texts_data.specs.DataTexts.{Allows}
+use Rattle.claims_exactly.specs.BkText.{IsBk, IsHeader}
+use Rattle.claims_exactly.specs.Typed.{shortest, longest, full, FullIsBk, FullIsAsked, spare, SpareIsBk, SpareIsAsked}
+use Rattle.claims_exactly.proofs.Responses.{asks-parts}
+
+shortest-is : IsBlock pinKeyRule shortest
+unfolding allOf
+shortest-is = record {
+  version = inr (inl refl);
+  size = omega arith;
+  usage = inr (inr (inl refl));
+  algorithm = inl refl;
+  mode = inr (inr (inl refl));
+  unjudged = (refl, refl);
+  id = (omega arith, omega arith);
+  tail = refl;
+}
+
+longest-is : IsBlock pvkRule longest
+unfolding allOf
+longest-is = record {
+  version = inl refl;
+  size = omega arith;
+  usage = inl refl;
+  algorithm = inl refl;
+  mode = inr (inr (inl refl));
+  unjudged = (refl, refl);
+  id = (omega arith, omega arith);
+  tail = refl;
+}
+
+full-is : (restricted : Bool) → Allows restricted (full .sealed .format) → IsBk restricted full
+unfolding allOf
+full-is restricted allowed = record {
+  keys = record { wanted = (inl refl, inl refl); first = shortest-is; second = longest-is };
+  sealed = record { block = (refl, refl); format = allowed };
+  inputs = record { check = (omega arith, omega arith); account = (refl, refl); table = (refl, refl); validation = (refl, refl) };
+  weak = ((omega arith, omega arith), (omega arith, omega arith), ((refl, refl), ((refl, refl), tt)));
+  end = record { id = (omega arith, omega arith); trailer = (omega arith, refl) };
+  ids = (refl, (refl, tt));
+}
+
+pub full-is-bk : FullIsBk
+full-is-bk = (full-is true (inr (inl refl)), full-is false tt, refl)
+
+spare-is : IsBk false spare
+unfolding allOf
+spare-is = record {
+  keys = record { wanted = (inr (inl refl), inl refl); first = (refl, refl); second = (refl, refl) };
+  sealed = record { block = (refl, refl); format = tt };
+  inputs = record { check = (omega arith, omega arith); account = (refl, refl); table = (refl, refl); validation = (refl, refl) };
+  weak = ((omega arith, omega arith), (omega arith, omega arith), ((refl, refl), tt));
+  end = record { id = tt; trailer = (omega arith, refl) };
+  ids = tt;
+}
+
+pub spare-is-bk : SpareIsBk
+spare-is-bk = (spare-is, refl)
+
+-- ---- behind a header
+
+header-is : IsHeader 4 (printed "HDR1")
+unfolding allOf
+header-is = (omega arith, (refl, refl))
+
+pub full-is-asked : FullIsAsked
+unfolding packs valueOf
+full-is-asked room roomy = asks-parts usually room (printed "HDR1") full roomy header-is (full-is false tt)
+
+pub spare-is-asked : SpareIsAsked
+unfolding packs valueOf
+spare-is-asked room roomy = asks-parts usually room (printed "HDR1") spare roomy header-is spare-is

@@ -1,0 +1,4 @@
+pub mod BkText
+pub mod Claims
+pub mod Responses
+pub mod Typed

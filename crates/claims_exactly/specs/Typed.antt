@@ -1,0 +1,100 @@
+-- Two commands, each as its parts and as the bytes that a host programmer types: one with every optional part, one with few.
+use Prim.Native.Char.{code}
+use Prim.Native.Nat.{ℕ, _≤_}
+use mathlib.Core.Path.{_≡_}
+use mathlib.Core.Bool.{true, false}
+use mathlib.Core.List.{List, [], _∷_, _++_}
+use lib.ListN.{replicate}
+use Rattle.numbers.specs.Numbers.{done}
+use Rattle.settings.specs.Settings.{usually}
+use Rattle.formats.specs.declared.Format.the-variants.{F03, F47}
+use Rattle.commands.specs.Commands.{asked}
+use Rattle.texts.specs.Characters.{printed}
+use Rattle.texts.specs.Texts.{absent, present}
+use Rattle.texts_keys.specs.KeyTexts.{KeyBlock, is002, isFFF, double, triple, block}
+use Rattle.texts_data.specs.DataTexts.{withN, withP, pins}
+use Rattle.claims_exactly.specs.BkText.{BkParts, bkText, IsBk}
+
+-- the shortest key block, of "0016" characters, for the PIN key: "72", "T", "N", LMK id "09"
+abbrev pub shortest : KeyBlock
+shortest = record {
+  version = code "1";
+  usage = printed "72";
+  algorithm = code "T";
+  mode = code "N";
+  unjudged = printed " ~a~ ";
+  id = 9;
+  tail = [];
+}
+
+-- the longest key block, of "0512" characters, for the PVK: "V1", "T", "N", LMK id "09"
+abbrev pub longest : KeyBlock
+longest = record {
+  version = code "0";
+  usage = printed "V1";
+  algorithm = code "T";
+  mode = code "N";
+  unjudged = printed "~ z ~";
+  id = 9;
+  tail = replicate 496 (code "~");
+}
+
+-- a command with every optional part
+abbrev pub full : BkParts
+full = record {
+  keys = record { type = isFFF; first = block shortest; second = block longest };
+  sealed = record { block = printed "0123456789ABCDEF"; format = F47 };
+  inputs = record {
+    check = 12;
+    account = printed "400000123456";
+    table = printed "9876543210987654";
+    validation = withP (printed "FEDCBA9876543210");
+  };
+  weak = present (pins 4 (printed "1234" ∷ (printed "9870" ∷ [])));
+  end = record { id = present 9; trailer = present (printed " The trailer has 32 characters.~") };
+}
+
+-- the same bytes, field after field as the paper writes them; 496 characters stand behind the PVK's LMK id
+abbrev pub fullText : List ℕ
+fullText =
+    printed "FFFS1001672TN ~a~ 09S00512V1TN~ z ~09"
+    ++ (replicate 496 (code "~")
+    ++ (printed "0123456789ABCDEF47124000001234569876543210987654PFEDCBA9876543210;020412349870%09"
+    ++ (0x19 ∷ printed " The trailer has 32 characters.~")))
+
+-- it is one of the paper's, restricted or not, and those are its bytes
+abbrev pub FullIsBk : Type 0
+FullIsBk = IsBk true full × IsBk false full × (bkText full ≡ fullText)
+
+-- so behind a header and `BK` the asking call takes it, and asks for the block that its `P` data say
+abbrev pub FullIsAsked : Type 0
+FullIsAsked = (room : ℕ) → 8 ≤ room
+    → asked usually (printed "HDR1BK" ++ fullText) room ≡ done (0xFE ∷ 0xDC ∷ 0xBA ∷ 0x98 ∷ 0x76 ∷ 0x54 ∷ 0x32 ∷ 0x10 ∷ [])
+
+-- another one: type 002, a `T` and a `U` key, `N` data, one weak PIN of twelve digits, no id, and a trailer of its mark alone
+abbrev pub spare : BkParts
+spare = record {
+  keys = record { type = is002; first = triple (printed "0123456789ABCDEFFEDCBA98765432100123456789ABCDEF"); second = double (printed "FEDCBA98765432100123456789ABCDEF") };
+  sealed = record { block = printed "FEDCBA9876543210"; format = F03 };
+  inputs = record {
+    check = 4;
+    account = printed "400000123456";
+    table = printed "0123456789012345";
+    validation = withN (printed "0123456789A") [];
+  };
+  weak = present (pins 12 (printed "123456789012" ∷ []));
+  end = record { id = absent; trailer = present [] };
+}
+
+abbrev pub spareText : List ℕ
+spareText =
+    printed "002T0123456789ABCDEFFEDCBA98765432100123456789ABCDEFUFEDCBA98765432100123456789ABCDEF"
+    ++ (printed "FEDCBA9876543210030440000012345601234567890123450123456789AN;0112123456789012" ++ (0x19 ∷ []))
+
+-- it is one of the paper's where formats are not restricted, those are its bytes, and the block asked for is P12's
+abbrev pub SpareIsBk : Type 0
+SpareIsBk = IsBk false spare × (bkText spare ≡ spareText)
+
+abbrev pub SpareIsAsked : Type 0
+SpareIsAsked = (room : ℕ) → 8 ≤ room
+    → asked usually (printed "HDR1BK" ++ spareText) room ≡ done (0x01 ∷ 0x23 ∷ 0x45 ∷ 0x67 ∷ 0x89 ∷ 0xA2 ∷ 0x34 ∷ 0x56 ∷ [])
