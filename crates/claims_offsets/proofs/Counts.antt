@@ -63,7 +63,7 @@ offset-short m ps qs =
     omega arith
 
 -- so the text of one that was made of a PIN has twelve characters
-pub text-twelve : (variable : Bool) (check : ℕ) (p : List ℕ × List ℕ) (ds w : List ℕ) → length (p .0) ≤ 12 → offsetFor variable check p ≡ done ds → done (offsetText ds) ≡ done w → length w ≡ 12
+pub text-twelve : (variable : Bool) (check : ℕ) (p : List ℕ × List ℕ) (ds w : List ℕ) → length (p .0) ≤ 12 → offsetFor variable check p ≡ done ds → _≡_ {A = Outcome (List ℕ)} (done (offsetText ds)) (done w) → length w ≡ 12
 text-twelve variable check p ds w short e f =
     let m = then-done (covers variable check (length (p .0))) _ ds e in
     let h = offset-short (m .0) (p .0) (p .1) in

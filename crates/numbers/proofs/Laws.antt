@@ -6,7 +6,7 @@ use mathlib.Core.Path.{_≡_, refl, sym, ap₂, _∙_, subst}
 use mathlib.Core.List.{List, _++_}
 use mathlib.Core.Bool.{Bool, true, false}
 use lib.ListN.{length, drop}
-use Rattle.numbers.specs.Numbers.{Outcome, done, refused, andThen, unless, numberOf}
+use Rattle.numbers.specs.Numbers.{Judged, Outcome, done, refused, andThen, unless, numberOf}
 use Rattle.numbers.specs.Promise.{Said, Does, quietly}
 use Rattle.numbers.specs.declared.Refusal.{Refusal}
 use Rattle.numbers.specs.declared.Reply.{Reply}
@@ -27,7 +27,7 @@ pub does-write : {A : Type 0} (o : Outcome (List A)) (ws before after : List A) 
 does-write o ws before after r e n w b = rw e (record { number = n; count = w; buffer = b })
 
 -- a chain that came to a value passed its first judgement
-pub then-done : {A B : Type 0} (o : Outcome A) (next : A → Outcome B) (b : B) → andThen o next ≡ done b → (a : A) × (o ≡ done a) × (next a ≡ done b)
+pub then-done : {Q A B : Type 0} (o : Judged Q A) (next : A → Judged Q B) (b : B) → andThen o next ≡ done b → (a : A) × (o ≡ done a) × (next a ≡ done b)
 then-done (done a) next b e = (a, refl, e)
 then-done (refused q) next b e = absurd (let z : _≡_ {A = ℕ} 0 1 = cc in omega arith)
 
@@ -40,7 +40,7 @@ pub failed : {A : Type 0} (q p : Refusal) (holds : Bool) (a : A) → unless q ho
 failed q p true a e = absurd (let z : _≡_ {A = ℕ} 0 1 = cc in omega arith)
 failed q p false a e = (refl, refl)
 
-pub value-of : {A : Type 0} {a b : A} → done a ≡ done b → a ≡ b
+pub value-of : {Q A : Type 0} {a b : A} → _≡_ {A = Judged Q A} (done a) (done b) → a ≡ b
 value-of e = cc
 
 -- the same outcome by another name

@@ -24,13 +24,17 @@ numberOf Weak86 = 86
 numberOf Room901 = 901
 numberOf Frame902 = 902
 
--- what a judgement comes to: a value, or the refusal that decides
-pub data Outcome (A : Type 0) : Type 0 where
-  done : A → Outcome A
-  refused : Refusal → Outcome A
+-- what a judgement comes to: a value, or the fault that decides
+pub data Judged (Q A : Type 0) : Type 0 where
+  done : A → Judged Q A
+  refused : Q → Judged Q A
+
+-- where the fault is a refusal and nothing else
+abbrev pub Outcome : Type 0 → Type 0
+Outcome A = Judged Refusal A
 
 -- the next judgement, where the one before found no fault: the first fault decides
-abbrev pub andThen : {A B : Type 0} → Outcome A → (A → Outcome B) → Outcome B
+abbrev pub andThen : {Q A B : Type 0} → Judged Q A → (A → Judged Q B) → Judged Q B
 andThen (done a) next = next a
 andThen (refused q) next = refused q
 
