@@ -26,7 +26,7 @@ use Rattle.frame.specs.Frame as frame
 use Rattle.frame.specs.Frame.{isFramed, framed, opening}
 use Rattle.frame.specs.declared.Code.{Code}
 use Rattle.frame.specs.declared.Code.the-variants.{Bk, Other}
-use Rattle.fields.specs.Fields.{Stage, read, faulty, outcome, run, number, trailer}
+use Rattle.fields.specs.Fields.{Stage, read, faulty, onward, outcome, run, number, trailer}
 use Rattle.keys.specs.Keys.{keyType, hexKey, lettered, key, lmkField}
 use Rattle.weak.specs.Weak.{weakField, entries, isOn}
 use Rattle.keybox.specs.KeyBox.{boxed}
@@ -41,7 +41,11 @@ use Rattle.claims_blocks.specs.Figures.{usualAccount}
 use Rattle.claims_blocks.specs.Promises.{Only00, Apart}
 use Rattle.claims_offsets.specs.Figures.{blockP2, encipheredP9}
 use Rattle.claims_commands.specs.Cores.{commandOf, otherAccount, encipheredZeros, asks, answers, CommandsNotRefusing, CommandsNotFixed, CommandsNotSilent, PapersExchange, AnswerReadsTheFields}
-use Rattle.claims_commands.proofs.Places.{staged}
+use Rattle.fields.proofs.Reading.{onward-read, read-once}
+use Rattle.keys.specs.declared.Use.the-variants.{PinKey, Pvk}
+use Rattle.stages.specs.declared.Keys.{Keys}
+use Rattle.stages.specs.declared.Sealed.{Sealed}
+use Rattle.stages.specs.declared.Offsetting.{Offsetting}
 
 -- ---- what an answer must be where a call says this
 
@@ -128,6 +132,23 @@ refusal-of e = cc
 not-refused : {A : Type 0} {a : A} {q : Refusal} → done a ≡ refused q → ⊥
 not-refused e = let z : _≡_ {A = ℕ} 0 1 = cc in omega arith
 
+-- the check length and the fields behind it were read
+measured : (restricted : Bool) (s : List ℕ) (at : ℕ) (p : bk.Bk) (past : ℕ) → bkFields restricted s at ≡ read p past → (at₆ : ℕ) × (at₁₀ : ℕ) × (offsetting 6 s at₆ ≡ read (p .offsetting) at₁₀)
+unfolding bkFields
+measured restricted s at p past e =
+    let o₁ = onward-read (keys 1 PinKey Pvk s at) _ p past e in
+    let o₄ = onward-read (sealed 4 restricted s (o₁ .1)) _ p past (o₁ .3) in
+    let o₆ = onward-read (offsetting 6 s (o₄ .1)) _ p past (o₄ .3) in
+    (o₄ .1, o₆ .1, from (o₁ .0) (o₄ .0) (o₆ .0) (o₄ .1) (o₆ .1) (o₆ .2) (o₆ .3))
+  where
+    from : (ks : Keys) (block : Sealed) (inputs : Offsetting) (at₆ at₁₀ : ℕ) → offsetting 6 s at₆ ≡ read inputs at₁₀
+        → onward (weak 10 0x3B s at₁₀) (λ pins at₁₁. onward (end 11 ks s at₁₁) (λ mark over. read (record { sealed = block; offsetting = inputs; weak = pins; trailer = mark }) over)) ≡ read p past
+        → offsetting 6 s at₆ ≡ read (p .offsetting) at₁₀
+    from ks block inputs at₆ at₁₀ h e =
+        let o = onward-read (weak 10 0x3B s at₁₀) _ p past e in
+        let u = onward-read (end 11 ks s (o .1)) _ p past (o .3) in
+        h ∙ ap (λ (q : bk.Bk). read (q .offsetting) at₁₀) (read-once (u .3) .0)
+
 -- the asking call refuses nothing behind the fields
 fields-refuse : (settings : Settings) (s : List ℕ) (at : ℕ) (q : Refusal) → bkAsk settings s at ≡ refused q → outcome (bkFields (settings .restricted) s at) ≡ refused q
 unfolding bkAsk
@@ -137,8 +158,8 @@ fields-refuse settings s at q = by-fields (bkFields (settings .restricted) s at)
         (stage : Stage bk.Bk) → bkFields (settings .restricted) s at ≡ stage
         → andThen (outcome stage) (λ p. andThen (validationRow (accountIn s (p .offsetting)) (validationIn s (p .offsetting))) (λ ns. done (packs ns))) ≡ refused q → outcome stage ≡ refused q
     by-fields (read p past) f e =
-        let h = staged (settings .restricted) s at p past f in
-        let row = row-of-valid (accountIn s (p .offsetting)) (validationIn s (p .offsetting)) (offsetting-held 6 s (h .at₆) (p .offsetting) (h .at₁₀) (h .measured) .valid) in
+        let h = measured (settings .restricted) s at p past f in
+        let row = row-of-valid (accountIn s (p .offsetting)) (validationIn s (p .offsetting)) (offsetting-held 6 s (h .0) (p .offsetting) (h .1) (h .2) .valid) in
         absurd (not-refused (rw (row .1) at e))
     by-fields (faulty f) _ e = ap refused (refusal-of e)
 

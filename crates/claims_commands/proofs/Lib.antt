@@ -1,6 +1,4 @@
-pub mod Ahead
-pub mod Before
-pub mod Places
+pub mod Listing
 pub mod Alike
 pub mod Told
 pub mod Differences

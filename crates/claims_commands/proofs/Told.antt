@@ -13,16 +13,19 @@ use Rattle.numbers.specs.Promise.{Said}
 use Rattle.settings.specs.declared.Settings.{Settings}
 use Rattle.ibm3624.specs.Ibm3624.{offsetText}
 use Rattle.frame.specs.Frame.{opening}
-use Rattle.bk.specs.Bk.{bkFinish, bkAnswer, bkPayload}
+use Rattle.stages.specs.declared.Keys.{Keys}
+use Rattle.stages.specs.declared.Sealed.{Sealed}
+use Rattle.bk.specs.Bk.{bkFields, bkFinish, bkAnswer, bkPayload}
 use Rattle.bk.specs.declared.Bk.{Bk}
 use Rattle.bk.proofs.Places.{answer-held}
 use Rattle.commands.specs.Commands.{answerBy, answered, responding}
 use Rattle.commands.proofs.Laws.{answered-framed}
 use Rattle.claims_offsets.proofs.Numbers.{number-once, never-00}
+use Rattle.claims_alike.proofs.Alike as any
 use Rattle.claims_commands.specs.Runs.{Reaches}
 use Rattle.claims_commands.specs.Claims.{AnswerAlike, ResponsesTell}
-use Rattle.claims_commands.proofs.Places.{places-behind}
-use Rattle.claims_commands.proofs.Alike.{read-alike, trailer-alike, opening-alike}
+use Rattle.claims_commands.proofs.Listing.{bkLayout}
+use Rattle.claims_commands.proofs.Alike.{opening-alike}
 
 -- ---- texts
 
@@ -107,15 +110,14 @@ module _ {settings : Settings} {g h : Bool} {room : ℕ} {s block enciphered : L
 
 -- their responses tell what their finishes came to
 pub answer-alike : AnswerAlike
+unfolding bkFields
 answer-alike settings g h room room′ s t block block′ enciphered enciphered′ r r′ alike =
     let header = settings .header in
     let p = r .fields in
-    let same = read-alike (settings .restricted) s t (header + 2) p (r′ .fields) (r .past) (r′ .past) (r .read) (r′ .read) alike in
-    let before = places-behind (settings .restricted) s (header + 2) p (r .past) (r .read) .block in
-    let opened : (n : ℕ) → opening header s n ≡ opening header t n = λ n. opening-alike header n (p .sealed .block) s t before alike in
-    let trailed = trailer-alike (settings .restricted) s t (header + 2) p (r .past) (r .read) alike in
+    let h = any.read-alike 16 Keys Sealed Bk (List ℕ) (bkLayout (settings .restricted)) s t (header + 2) p (r′ .fields) (r .past) (r′ .past) (r .read) (r′ .read) alike in
+    let opened : (n : ℕ) → opening header s n ≡ opening header t n = λ n. opening-alike header n (p .sealed .block) s t (h .within) (alike .before) in
     let tail = drop (p .trailer) s in
     let here = reached r tail refl in
-    let there = reached r′ tail (ap (λ (q : Bk). drop (q .trailer) t) (sym same) ∙ sym trailed) in
+    let there = reached r′ tail (sym (h .seen)) in
     let tell = responses-tell (List ℕ) (Below 10) offsetText text-once header s t tail opened (finish r) (finish r′) (finish-digits r) (finish-digits r′) in
     (λ e. tell .0 (sym here ∙ e ∙ there), λ e. here ∙ tell .1 e ∙ sym there)

@@ -95,8 +95,7 @@ module _ (settings : Settings) (m : ℕ) (weak : List ℕ) (p : Bk) where
   -- and of two: they are alike but for the block, their PINs have one length, and m digits are covered
   abbrev Compared : Run → Run → List ℕ → List ℕ → Type 0
   Compared a b pin pin′ =
-      (length (sent a) ≡ length (sent b))
-      × (take (p .sealed .block) (sent a) ≡ take (p .sealed .block) (sent b))
+      (take (p .sealed .block) (sent a) ≡ take (p .sealed .block) (sent b))
       × (drop (p .sealed .block + 16) (sent a) ≡ drop (p .sealed .block + 16) (sent b))
       × (length pin ≡ length pin′)
       × (covers (settings .variable) (p .offsetting .check) (length pin) ≡ done m)
@@ -106,9 +105,9 @@ module _ (settings : Settings) (m : ℕ) (weak : List ℕ) (p : Bk) where
   meets a b pair pair′ c c′ d apart = record {
     first = reading a pair c;
     second = reading b pair′ c′;
-    alike = record { long = d .0; before = d .1; behind = d .2 };
-    long = d .3;
-    covered = d .4;
+    alike = record { before = d .0; behind = d .1 };
+    long = d .2;
+    covered = d .3;
     apart = apart;
   }
 
@@ -120,15 +119,15 @@ pub assumptions-met : AssumptionsMet
 unfolding nibs xors every leading same allOf begins valueOf formats.codeOf contents readRow differences pinWithNatural isFramed opening run number trailer keyType hexKey lettered key lmkField listed weakField entries isOn keys formatField sealed shapeOf validationField offsetting weak end boxed bkFields bkFinish bkAnswer answerBy answered reading meets
 assumptions-met = (
   (
-    meets usually 4 [] none runP9 runP10 pinP9 pinP10 (refl, refl, refl, refl, refl) (refl, refl, refl, refl, refl) (refl, refl, refl, refl, refl) (differ (pinP9 .0) (pinP10 .0) refl refl),
+    meets usually 4 [] none runP9 runP10 pinP9 pinP10 (refl, refl, refl, refl, refl) (refl, refl, refl, refl, refl) (refl, refl, refl, refl) (differ (pinP9 .0) (pinP10 .0) refl refl),
     refl,
   ),
   (
-    meets usually 4 [] none runP9 runOther pinP9 pinOther (refl, refl, refl, refl, refl) (refl, refl, refl, refl, refl) (refl, refl, refl, refl, refl) (differ (pinP9 .0) (pinOther .0) refl refl),
+    meets usually 4 [] none runP9 runOther pinP9 pinOther (refl, refl, refl, refl, refl) (refl, refl, refl, refl, refl) (refl, refl, refl, refl) (differ (pinP9 .0) (pinOther .0) refl refl),
     λ e. omega (arith, ap (λ (x : Said ℕ). getD (x .written) 11 0) e),
   ),
   record {
-    met = meets usually 4 [] none runP9 runLastFour pinP9 pinLastFour (refl, refl, refl, refl, refl) (refl, refl, refl, refl, refl) (refl, refl, refl, refl, refl)
+    met = meets usually 4 [] none runP9 runLastFour pinP9 pinLastFour (refl, refl, refl, refl, refl) (refl, refl, refl, refl, refl) (refl, refl, refl, refl)
         (differ (pinP9 .0) (pinLastFour .0) refl refl);
     five = λ e. omega (arith, ap (λ (ds : List ℕ). getD ds 0 0) e);
     four = refl;
@@ -136,21 +135,21 @@ assumptions-met = (
   },
   (
     (
-      meets variable 5 [] none runP9 runP10 pinP9 pinP10 (refl, refl, refl, refl, refl) (refl, refl, refl, refl, refl) (refl, refl, refl, refl, refl) (differ (pinP9 .0) (pinP10 .0) refl refl),
+      meets variable 5 [] none runP9 runP10 pinP9 pinP10 (refl, refl, refl, refl, refl) (refl, refl, refl, refl, refl) (refl, refl, refl, refl) (differ (pinP9 .0) (pinP10 .0) refl refl),
       refl,
     ),
     (
-      meets variable 5 [] none runP9 runLastFour pinP9 pinLastFour (refl, refl, refl, refl, refl) (refl, refl, refl, refl, refl) (refl, refl, refl, refl, refl)
+      meets variable 5 [] none runP9 runLastFour pinP9 pinLastFour (refl, refl, refl, refl, refl) (refl, refl, refl, refl, refl) (refl, refl, refl, refl)
           (differ (pinP9 .0) (pinLastFour .0) refl refl),
       λ e. omega (arith, ap (λ (x : Said ℕ). getD (x .written) 8 0) e),
     ),
   ),
   (
-    meets usually 4 bothListed both runP9 runP10 pinP9 pinP10 (refl, refl, refl, refl, refl) (refl, refl, refl, refl, refl) (refl, refl, refl, refl, refl) (differ (pinP9 .0) (pinP10 .0) refl refl),
+    meets usually 4 bothListed both runP9 runP10 pinP9 pinP10 (refl, refl, refl, refl, refl) (refl, refl, refl, refl, refl) (refl, refl, refl, refl) (differ (pinP9 .0) (pinP10 .0) refl refl),
     refl,
   ),
   (
-    meets usually 4 oneListed one runP9 runP10 pinP9 pinP10 (refl, refl, refl, refl, refl) (refl, refl, refl, refl, refl) (refl, refl, refl, refl, refl) (differ (pinP9 .0) (pinP10 .0) refl refl),
+    meets usually 4 oneListed one runP9 runP10 pinP9 pinP10 (refl, refl, refl, refl, refl) (refl, refl, refl, refl, refl) (refl, refl, refl, refl) (differ (pinP9 .0) (pinP10 .0) refl refl),
     λ e. omega (arith, ap (λ (x : Said ℕ). x .number) e),
   ),
 )

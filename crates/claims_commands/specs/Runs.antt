@@ -3,7 +3,7 @@ use Prim.Native.Nat.{ℕ, _+_, _≤_}
 use mathlib.Core.Path.{_≡_}
 use mathlib.Core.List.{List}
 use mathlib.Core.Bool.{Bool, true}
-use lib.ListN.{length, take, drop}
+use lib.ListN.{drop}
 use Rattle.numbers.specs.Numbers.{done}
 use Rattle.settings.specs.declared.Settings.{Settings}
 use Rattle.frame.specs.Frame.{isFramed, codeOf}
@@ -15,12 +15,11 @@ use Rattle.stages.specs.Stages.{accountIn, tableIn}
 use Rattle.bk.specs.Bk.{bkFields}
 use Rattle.bk.specs.declared.Bk.{Bk}
 use Rattle.commands.specs.Commands.{roomToAnswer}
+use Rattle.claims_alike.specs.Alike.{Outside}
 
 -- "alike except for the sixteen characters of the enciphered PIN block", which begin at a place
-pub record AlikeBut (at : ℕ) (s t : List ℕ) : Type 0 where
-  pub long : length s ≡ length t
-  pub before : take at s ≡ take at t
-  pub behind : drop (at + 16) s ≡ drop (at + 16) t
+abbrev pub AlikeBut : ℕ → List ℕ → List ℕ → Type 0
+AlikeBut place s t = Outside 16 place s t
 
 -- a run that is not refused before its block is looked at: there is room, the command is a BK with a frame and its fields, both slices
 -- have 8 bytes and both parities are good

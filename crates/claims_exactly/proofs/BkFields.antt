@@ -1,45 +1,31 @@
--- BK's fields are read exactly: a line for each stage.
+-- BK's fields are read exactly: as they are listed, and then the parts by name.
 -- Assumes nothing.
 use Prim.Native.Nat.{ℕ}
 use mathlib.Core.Path.{_≡_, refl, sym, subst}
 use mathlib.Core.List.{List, [], _++_}
 use mathlib.Core.Bool.{Bool}
 use Rattle.alphabet.specs.Alphabet.{begins}
-use Rattle.keys.specs.declared.Use.the-variants.{PinKey, Pvk}
 use Rattle.bk.specs.Bk.{bkFields}
 use Rattle.bk.specs.declared.Bk.{Bk}
 use Rattle.texts.specs.Texts.{Optional, absent, present, WherePresent}
 use Rattle.texts.specs.Exact.{Writing, ExactAt}
-use Rattle.texts.specs.Joining.{Same, joined, mapped}
+use Rattle.texts.specs.Joining.{Same}
 use Rattle.texts.specs.Whole.{written}
-use Rattle.texts.proofs.Closing.{onward-exact, onward-last, stage-as}
+use Rattle.texts.proofs.Closing.{stage-as}
 use Rattle.texts_keys.specs.KeyTexts.{ownIds, AllSame}
 use Rattle.texts_keys.specs.KeyWritings.{lmkOf, idsRead}
 use Rattle.texts_keys.proofs.KeyFields.{key-ids}
 use Rattle.texts_data.specs.DataTexts.{WeakList, IsWeakList}
-use Rattle.texts_data.specs.DataWritings.{weakFine, weakLists}
+use Rattle.texts_data.specs.DataWritings.{weakFine}
 use Rattle.texts_stages.specs.StageTexts.{endText}
-use Rattle.texts_stages.specs.StageWritings.{keysAt, sealedAt, inputsAt, endAt}
-use Rattle.texts_stages.proofs.Stages.{keys-exact, sealed-exact, inputs-exact, weak-stage-exact, end-exact}
+use Rattle.claims_alike.proofs.Pieces.{whole}
+use Rattle.claims_commands.proofs.Listing.{bkLayout, listed-exact}
 use Rattle.claims_exactly.specs.BkText.{BkParts, bkIds, IsBk}
 use Rattle.claims_exactly.specs.Claims.{bkCommand}
 
+-- the stages, joined
 abbrev bkJoined : Bool → ℕ → Writing Bk
-bkJoined restricted at₁ =
-    joined at₁ (keysAt 1 PinKey Pvk at₁)
-    (λ ks at₄. joined at₄ (sealedAt restricted at₄)
-    (λ block at₆. joined at₆ (inputsAt at₆)
-    (λ inputs at₁₀. joined at₁₀ (weakLists 0x3B at₁₀)
-    (λ pins at₁₁. mapped (λ (mark : ℕ). record { sealed = block; offsetting = inputs; weak = pins; trailer = mark }) (endAt ks at₁₁)))))
-
-joined-exact : (restricted : Bool) (s : List ℕ) (at₁ : ℕ) → ExactAt s at₁ (bkFields restricted s at₁) (bkJoined restricted at₁)
-unfolding bkFields
-joined-exact restricted s at₁ =
-    onward-exact s at₁ (keysAt 1 PinKey Pvk at₁) _ _ _ (keys-exact 1 PinKey Pvk s at₁)
-    (λ ks at₄. onward-exact s at₄ (sealedAt restricted at₄) _ _ _ (sealed-exact 4 restricted s at₄)
-    (λ block at₆. onward-exact s at₆ (inputsAt at₆) _ _ _ (inputs-exact 6 s at₆)
-    (λ inputs at₁₀. onward-exact s at₁₀ (weakLists 0x3B at₁₀) _ _ _ (weak-stage-exact 10 0x3B s at₁₀)
-    (λ pins at₁₁. onward-last s at₁₁ _ (endAt ks at₁₁) _ (end-exact 11 ks s at₁₁)))))
+bkJoined restricted = whole (bkLayout restricted) .writing
 
 -- ---- the parts by name
 
@@ -86,4 +72,4 @@ bk-same restricted at = record { to = to; text = λ q. refl; value = λ q. refl;
 
 pub bk-exact : (restricted : Bool) (s : List ℕ) (at : ℕ) → ExactAt s at (bkFields restricted s at) (written (bkCommand restricted) at)
 bk-exact restricted s at =
-    stage-as (bkJoined restricted at) (written (bkCommand restricted) at) (bk-same restricted at) s at (bkFields restricted s at) (joined-exact restricted s at)
+    stage-as (bkJoined restricted at) (written (bkCommand restricted) at) (bk-same restricted at) s at (bkFields restricted s at) (listed-exact restricted s at)
