@@ -13,7 +13,7 @@ use Rattle.fields.specs.Fields.{Stage, read, faulty, trailer}
 use Rattle.fields.specs.declared.Fault.{Fault}
 use Rattle.fields.proofs.Reading.{field-read, read-once, inside-from, trailer-33}
 use Rattle.keys.specs.Keys.{lmkField}
-use Rattle.keys.proofs.SteadyKeys.{lmk-field-steady}
+use Rattle.keys.proofs.Laws.{lmk-onward}
 use Rattle.keys.specs.declared.Lmk.{Lmk}
 use Rattle.endings.specs.Answers.{endOf}
 use Rattle.endings.specs.declared.End.the-variants.{At, Bad}
@@ -67,6 +67,6 @@ end-held first ks s at mark past e h =
     let f₁ = field-read first lmkField s at _ mark past e in
     let f₂ = field-read (first + 1) trailer s (at + f₁ .1) _ mark past (f₁ .3) in
     let shut = closed-read ks (f₁ .0) first at s (at + f₁ .1) (at + f₁ .1 + f₂ .1) mark past (f₂ .3) in
-    let own = inside-from s at (f₁ .1) h (lmk-field-steady .onward (drop at s) (f₁ .0) (f₁ .1) (f₁ .2)) in
+    let own = inside-from s at (f₁ .1) h (lmk-onward (drop at s) (f₁ .0) (f₁ .1) (f₁ .2)) in
     let short = trailer-33 (drop (at + f₁ .1) s) (f₂ .0) (f₂ .1) (f₂ .2) in
     (omega (arith, shut .0, own), omega (arith, shut .0, shut .1, short))

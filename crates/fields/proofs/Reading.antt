@@ -2,7 +2,7 @@
 -- Assumes nothing.
 use Prim.Native.Nat.{ℕ, _+_, _≤_}
 use native.Mathlib.Omega.{arith}
-use mathlib.Core.Path.{_≡_, refl, ap}
+use mathlib.Core.Path.{_≡_, refl, sym, ap}
 use mathlib.Core.List.{List}
 use mathlib.Core.Bool.{Bool, true, false, cond}
 use lib.ListN.{length, drop, length-drop}
@@ -14,7 +14,11 @@ use Rattle.numbers.specs.declared.Refusal.the-variants.{Field15}
 use Rattle.numbers.proofs.Laws.{value-of}
 use Rattle.fields.specs.Fields.{Found, Stage, read, faulty, field, fielded, onward, run, marked, behind, trailer, atMost}
 use Rattle.fields.proofs.Laws.{run-found}
-use Rattle.fields.proofs.Steady.{behind-done}
+
+-- what was found behind a character was found before it
+pub behind-done : {A : Type 0} (o : Found A) (a : A) (n : ℕ) → behind 1 o ≡ done (a, n) → (m : ℕ) × (o ≡ done (a, m)) × (n ≡ 1 + m)
+behind-done {A} (done (b, m)) a n e = let w = value-of e in (m, ap (λ (x : A). done (x, m)) (ap (λ (r : A × ℕ). r .0) w), sym (ap (λ (r : A × ℕ). r .1) w))
+behind-done (refused q) a n e = absurd (let z : _≡_ {A = ℕ} 0 1 = cc in omega arith)
 
 -- ---- fields and stages that were read
 

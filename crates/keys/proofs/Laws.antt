@@ -25,6 +25,7 @@ use Rattle.fields.specs.declared.Value.the-variants.{Got, Bad}
 use Rattle.fields.specs.declared.Mark.the-variants.{Behind}
 use Rattle.fields.specs.declared.Mark.the-variants as mark
 use Rattle.fields.proofs.Laws.{value-of-found, value-of-bad, mark-there, mark-absent, run-found, run-refuses, number-found, number-refuses}
+use Rattle.fields.proofs.Reading.{behind-done}
 use Rattle.keys.specs.Keys.{type001, type002, typeFFF, keyType, hexKey, saidLength, blockLength, permits, keyBlock, lettered, key, lmkField}
 use Rattle.keys.specs.Answers.{typedFrom, keyedFrom}
 use Rattle.keys.specs.declared.Letters.{Letters}
@@ -333,3 +334,19 @@ module _ (for : Use) (cs : List ℕ) where
               named = t ∙ rw (h .0);
             },
           )
+
+-- ---- the LMK id in its own field
+
+-- it ends with the characters ahead or before
+pub lmk-onward : (cs : List ℕ) (l : Lmk) (n : ℕ) → lmkField cs ≡ done (l, n) → n ≤ length cs
+unfolding lmkField
+lmk-onward cs l n e = by-mark (marked 0x25 cs) e
+  where
+    by-mark : (there : Bool) → cond there (behind 1 (andThen (number 0 9 Field15 (drop 1 cs)) (λ id. done (Id (id .0), id .1)))) (done (Absent, 0)) ≡ done (l, n) → n ≤ length cs
+    by-mark true h =
+        let r = behind-done (andThen (number 0 9 Field15 (drop 1 cs)) (λ id. done (Id (id .0), id .1))) l n h in
+        let t = then-done (number 0 9 Field15 (drop 1 cs)) (λ (id : ℕ × ℕ). done (Id (id .0), id .1)) (l, r .0) (r .1) in
+        let f = number-found 0 9 Field15 (drop 1 cs) (t .0 .0) (t .0 .1) (t .1) in
+        let k : t .0 .1 ≡ r .0 = ap (λ (x : Lmk × ℕ). x .1) (value-of (t .2)) in
+        omega (arith, r .2, f .0, f .1, length-drop 1 cs)
+    by-mark false h = let z : 0 ≡ n = ap (λ (x : Lmk × ℕ). x .1) (value-of h) in omega arith

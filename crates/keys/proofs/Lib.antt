@@ -1,4 +1,2 @@
 pub mod Uses
-pub mod Steady
 pub mod Laws
-pub mod SteadyKeys

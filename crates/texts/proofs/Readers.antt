@@ -21,7 +21,7 @@ use Rattle.numbers.proofs.Laws.{then-done, value-of}
 use Rattle.fields.specs.Fields as fields
 use Rattle.fields.specs.Fields.{Found, run, number, marked, behind, atMost, trailer}
 use Rattle.fields.proofs.Laws.{run-whole, run-found, number-whole, number-found, number-digits}
-use Rattle.fields.proofs.Steady.{behind-done}
+use Rattle.fields.proofs.Reading.{behind-done}
 use Rattle.texts.specs.Texts.{Optional, absent, present, optionalText, asTwoDigits}
 use Rattle.texts.specs.Exact.{Writing, Opens, Apart, Exact}
 use Rattle.texts.specs.Joining.{never, mapped, either, eitherFine, eitherText, eitherValue, optional, optionalFine, optionalValue}
