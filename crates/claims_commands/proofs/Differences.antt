@@ -38,25 +38,25 @@ module _ {A : Type 0} (q : Refusal) (x y : A) where
 
 -- the finish of a run whose PIN is read and whose check length fits
 finish-read :
-    {settings : Settings} {g h : Bool} {room : ℕ} {s block enciphered : List ℕ} (r : Reads settings g h room s block enciphered) (m : ℕ)
-    → covers (settings .variable) (r .reaches .fields .offsetting .check) (length (r .pin)) ≡ done m
+    (settings : Settings) (g h : Bool) (room : ℕ) (s block enciphered : List ℕ) (r : Reads settings g h room s block enciphered) (m : ℕ)
+    → covers (settings .variable) (r .reaches .fields .offsetting .check) (length (r .found .0)) ≡ done m
     → bkFinish (settings .variable) s (r .reaches .fields) (r .reaches .rows)
-    ≡ unless Weak86 (not (isOn (r .pin) (weakPins (r .reaches .fields .weak) s))) (offsetOf m (r .pin) (r .natural))
+    ≡ unless Weak86 (not (isOn (r .found .0) (weakPins (r .reaches .fields .weak) s))) (offsetOf m (r .found .0) (r .found .1))
 unfolding bkFinish
-finish-read r m c = rw (r .paired, c)
+finish-read settings g h room s block enciphered r m c = rw (r .paired, c)
 
 pub offsets-tell-differences : OffsetsTellDifferences
 offsets-tell-differences settings g h room room′ m s t block block′ enciphered enciphered′ r r′ alike long c =
     let a = r .reaches in
     let b = r′ .reaches in
     let same = read-alike (settings .restricted) s t (settings .header + 2) (a .fields) (b .fields) (a .past) (b .past) (a .read) (b .read) alike in
-    let here = finish-read r m c in
-    let there = finish-read r′ m (ap₂ (λ (p : Bk) (n : ℕ). covers (settings .variable) (p .offsetting .check) n) (sym same) (sym long) ∙ c) in
+    let here = finish-read settings g h room s block enciphered r m c in
+    let there = finish-read settings g h room′ t block′ enciphered′ r′ m (ap₂ (λ (p : Bk) (n : ℕ). covers (settings .variable) (p .offsetting .check) n) (sym same) (sym long) ∙ c) in
     let answers = answer-alike settings g h room room′ s t block block′ enciphered enciphered′ a b alike in
-    let offset = offsetOf m (r .pin) (r .natural) in
-    let offset′ = offsetOf m (r′ .pin) (r′ .natural) in
-    let weak = isOn (r .pin) (weakPins (a .fields .weak) s) in
-    let weak′ = isOn (r′ .pin) (weakPins (b .fields .weak) t) in (
+    let offset = offsetOf m (r .found .0) (r .found .1) in
+    let offset′ = offsetOf m (r′ .found .0) (r′ .found .1) in
+    let weak = isOn (r .found .0) (weakPins (a .fields .weak) s) in
+    let weak′ = isOn (r′ .found .0) (weakPins (b .fields .weak) t) in (
       λ e. unless-told Weak86 offset offset′ weak weak′ (sym here ∙ answers .0 e ∙ there),
       λ e. answers .1 (here ∙ unless-same Weak86 offset offset′ weak weak′ e ∙ sym there),
     )

@@ -2,7 +2,8 @@
 -- Assumes nothing.
 use Prim.Native.Nat.{ℕ, zero, suc, _+_, _-_}
 use native.Mathlib.Omega.{arith}
-use mathlib.Core.Path.{_≡_, refl, sym, ap, ap₂, _∙_}
+use mathlib.Core.Path.{_≡_, refl, sym, ap, ap₂, _∙_, subst}
+use mathlib.Core.Logic.{_↔_}
 use mathlib.Core.List.{List, [], _∷_, _++_, append-cancel-left, append-cancel-right}
 use mathlib.Core.Bool.{Bool}
 use lib.ListN.{length, drop, replicate}
@@ -12,7 +13,9 @@ use Rattle.numbers.specs.Numbers.{Outcome, done, refused, andThen, numberOf}
 use Rattle.numbers.specs.Promise.{Said}
 use Rattle.settings.specs.declared.Settings.{Settings}
 use Rattle.ibm3624.specs.Ibm3624.{offsetText}
+use Rattle.keybox.specs.KeyBox.{boxed}
 use Rattle.frame.specs.Frame.{opening}
+use Rattle.frame.specs.declared.Code.the-variants as code
 use Rattle.stages.specs.declared.Keys.{Keys}
 use Rattle.stages.specs.declared.Sealed.{Sealed}
 use Rattle.bk.specs.Bk.{bkFields, bkFinish, bkAnswer, bkPayload}
@@ -23,7 +26,7 @@ use Rattle.commands.proofs.Laws.{answered-framed}
 use Rattle.claims_offsets.proofs.Numbers.{number-once, never-00}
 use Rattle.claims_alike.proofs.Alike as any
 use Rattle.claims_commands.specs.Runs.{Reaches}
-use Rattle.claims_commands.specs.Claims.{AnswerAlike, ResponsesTell}
+use Rattle.claims_commands.specs.Claims.{ResponsesTell, saying, AnswersTell, AnswerAlike}
 use Rattle.claims_commands.proofs.Listing.{bkLayout}
 use Rattle.claims_commands.proofs.Alike.{opening-alike}
 
@@ -80,7 +83,7 @@ responses-tell A Fine text once header s t tail opened o o′ f f′ = (
 
 -- ---- a run that is not refused before its block is looked at
 
-module _ {settings : Settings} {g h : Bool} {room : ℕ} {s block enciphered : List ℕ} (r : Reaches settings g h room s block enciphered) where
+module _ (settings : Settings) (g h : Bool) (room : ℕ) (s block enciphered : List ℕ) (r : Reaches settings g h room s block enciphered) where
   -- the finish of the run
   abbrev pub finish : Outcome (List ℕ)
   finish = bkFinish (settings .variable) s (r .fields) (r .rows)
@@ -91,14 +94,12 @@ module _ {settings : Settings} {g h : Bool} {room : ℕ} {s block enciphered : L
   behind (done ds) mark = refl
   behind (refused q) mark = refl
 
-  -- what it answers is the response to its finish, with its trailer by another name
-  pub reached : (tail : List ℕ) → drop (r .fields .trailer) s ≡ tail
-      → answered settings g h s block enciphered room ≡ responding (settings .header) s (andThen finish (λ offset. done (offsetText offset ++ tail)))
+  -- what it answers is the response to its finish, with its trailer
+  pub reached : answered settings g h s block enciphered room ≡ responding (settings .header) s (andThen finish (λ offset. done (offsetText offset ++ drop (r .fields .trailer) s)))
   unfolding answerBy bkAnswer
-  reached tail e =
+  reached =
       answered-framed settings g h s block enciphered room (r .roomy) (r .framed)
       ∙ rw (r .coded, r .read, r .boxed) (ap (responding (settings .header) s) (behind finish (r .fields .trailer)))
-      ∙ ap (λ (x : List ℕ). responding (settings .header) s (andThen finish (λ offset. done (offsetText offset ++ x)))) e
 
   -- an offset that it comes to has digits
   pub finish-digits : (ds : List ℕ) → finish ≡ done ds → Below 10 ds
@@ -108,16 +109,23 @@ module _ {settings : Settings} {g h : Bool} {room : ℕ} {s block enciphered : L
 
 -- ---- two runs
 
--- their responses tell what their finishes came to
+-- of any command: their responses tell what their finishes came to
+pub answers-tell : AnswersTell
+answers-tell n F X A S R B c finish Fine text trail once command box box′ header room room′ s t r r′ alike f f′ =
+    let h = any.read-alike n F X A S c s t (header + 2) (r .fields) (r′ .fields) (r .past) (r′ .past) (r .read) (r′ .read) alike in
+    let opened : (k : ℕ) → opening header s k ≡ opening header t k = λ k. opening-alike header k (c .place (r .fields)) s t (h .within) (alike .before) in
+    let o = finish s (r .fields) (r .rows) in
+    let o′ = finish t (r′ .fields) (r′ .rows) in
+    subst (λ (v : S). (saying c finish text trail header s (r .fields) (r .rows) ≡ responding header t (andThen o′ (λ x. done (text x ++ trail v)))) ↔ (o ≡ o′))
+    (h .seen) (responses-tell B Fine text once header s t (trail (c .seen (r .fields) s)) opened o o′ f f′)
+
+-- of BK
 pub answer-alike : AnswerAlike
 unfolding bkFields
 answer-alike settings g h room room′ s t block block′ enciphered enciphered′ r r′ alike =
-    let header = settings .header in
-    let p = r .fields in
-    let h = any.read-alike 16 Keys Sealed Bk (List ℕ) (bkLayout (settings .restricted)) s t (header + 2) p (r′ .fields) (r .past) (r′ .past) (r .read) (r′ .read) alike in
-    let opened : (n : ℕ) → opening header s n ≡ opening header t n = λ n. opening-alike header n (p .sealed .block) s t (h .within) (alike .before) in
-    let tail = drop (p .trailer) s in
-    let here = reached r tail refl in
-    let there = reached r′ tail (sym (h .seen)) in
-    let tell = responses-tell (List ℕ) (Below 10) offsetText text-once header s t tail opened (finish r) (finish r′) (finish-digits r) (finish-digits r′) in
+    let here = reached settings g h room s block enciphered r in
+    let there = reached settings g h room′ t block′ enciphered′ r′ in
+    let fine = finish-digits settings g h room s block enciphered r in
+    let fine′ = finish-digits settings g h room′ t block′ enciphered′ r′ in
+    let tell = answers-tell 16 Keys Sealed Bk (List ℕ) (List ℕ × List ℕ) (List ℕ) (bkLayout (settings .restricted)) (bkFinish (settings .variable)) (Below 10) offsetText (λ x. x) text-once code.Bk (boxed g h block enciphered) (boxed g h block′ enciphered′) (settings .header) room room′ s t r r′ alike fine fine′ in
     (λ e. tell .0 (sym here ∙ e ∙ there), λ e. here ∙ tell .1 e ∙ sym there)

@@ -87,8 +87,7 @@ module _ (settings : Settings) (m : ℕ) (weak : List ℕ) (p : Bk) where
   reading : (a : Run) (pair : List ℕ × List ℕ) → Computed a pair → Reads settings true true roomToAnswer (sent a) (a .block) (a .enciphered)
   reading a pair c = record {
     reaches = record { roomy = le-refl roomToAnswer; framed = c .0; coded = c .1; fields = p; past = p .trailer; read = c .2; rows = rows a; boxed = c .3 };
-    pin = pair .0;
-    natural = pair .1;
+    found = pair;
     paired = c .4;
   }
 

@@ -6,15 +6,18 @@ use mathlib.Core.List.{List, _++_}
 use mathlib.Core.Bool.{Bool, true, false}
 use lib.ListN.{length}
 use Rattle.numbers.specs.Numbers.{Outcome, done, andThen}
+use Rattle.numbers.specs.Promise.{Said}
 use Rattle.settings.specs.declared.Settings.{Settings}
 use Rattle.ibm3624.specs.Ibm3624.{covers, offsetOf}
 use Rattle.frame.specs.Frame.{opening}
+use Rattle.frame.specs.declared.Code.{Code}
 use Rattle.fields.specs.Fields.{read}
 use Rattle.weak.specs.Weak.{isOn, weakPins}
 use Rattle.bk.specs.Bk.{bkFields, bkFinish}
 use Rattle.bk.specs.declared.Bk.{Bk}
 use Rattle.commands.specs.Commands.{answered, responding}
-use Rattle.claims_commands.specs.Runs.{AlikeBut, Reaches, Reads}
+use Rattle.claims_alike.specs.Alike.{Layout, fields, Outside}
+use Rattle.claims_commands.specs.Runs.{Reached, AlikeBut, Reaches, Reads}
 
 -- commands that are both read, and are alike outside the block's characters, are read alike
 abbrev pub ReadAlike : Type 0
@@ -32,6 +35,22 @@ ResponsesTell = (A : Type 0) (Fine : A → Type 0) (text : A → List ℕ)
     → (o o′ : Outcome A) → ((a : A) → o ≡ done a → Fine a) → ((a : A) → o′ ≡ done a → Fine a)
     → (responding header s (andThen o (λ a. done (text a ++ tail))) ≡ responding header t (andThen o′ (λ a. done (text a ++ tail))))
     ↔ (o ≡ o′)
+
+-- what a run says that gets as far as its block: the response to what it finishes with, by its text, and a trailer of what is looked at
+abbrev pub saying : {n : ℕ} {F X A S R B : Type 0} → Layout n F X A S → (List ℕ → A → R → Outcome B) → (B → List ℕ) → (S → List ℕ) → ℕ → List ℕ → A → R → Said ℕ
+saying c finish text trail header s a rows = responding header s (andThen (finish s a rows) (λ b. done (text b ++ trail (c .seen a s))))
+
+-- so two runs of any command, alike outside the block's characters, answer alike exactly when they finish alike. For any finish, any
+-- text of what it comes to, and any trailer
+abbrev pub AnswersTell : Type 1
+AnswersTell = (n : ℕ) (F X A S R B : Type 0) (c : Layout n F X A S) (finish : List ℕ → A → R → Outcome B)
+    (Fine : B → Type 0) (text : B → List ℕ) (trail : S → List ℕ) → ((x y : B) → Fine x → Fine y → text x ≡ text y → x ≡ y)
+    → (command : Code) (box box′ : Outcome R) (header room room′ : ℕ) (s t : List ℕ)
+    (r : Reached command (fields c) box header room s) (r′ : Reached command (fields c) box′ header room′ t)
+    → Outside n (c .place (r .fields)) s t
+    → ((x : B) → finish s (r .fields) (r .rows) ≡ done x → Fine x) → ((x : B) → finish t (r′ .fields) (r′ .rows) ≡ done x → Fine x)
+    → (saying c finish text trail header s (r .fields) (r .rows) ≡ saying c finish text trail header t (r′ .fields) (r′ .rows))
+    ↔ (finish s (r .fields) (r .rows) ≡ finish t (r′ .fields) (r′ .rows))
 
 -- BK's commands, alike outside the block's characters, answer alike exactly when their finish does
 abbrev pub AnswerAlike : Type 0
@@ -55,7 +74,7 @@ abbrev pub OffsetsTellDifferences : Type 0
 OffsetsTellDifferences = (settings : Settings) (g h : Bool) (room room′ m : ℕ) (s t block block′ enciphered enciphered′ : List ℕ)
     (r : Reads settings g h room s block enciphered) (r′ : Reads settings g h room′ t block′ enciphered′)
     → AlikeBut (r .reaches .fields .sealed .block) s t
-    → length (r .pin) ≡ length (r′ .pin)
-    → covers (settings .variable) (r .reaches .fields .offsetting .check) (length (r .pin)) ≡ done m
+    → length (r .found .0) ≡ length (r′ .found .0)
+    → covers (settings .variable) (r .reaches .fields .offsetting .check) (length (r .found .0)) ≡ done m
     → (answered settings g h s block enciphered room ≡ answered settings g h t block′ enciphered′ room′)
-    ↔ SameTold m (weakPins (r .reaches .fields .weak) s) (weakPins (r′ .reaches .fields .weak) t) (r .pin, r .natural) (r′ .pin, r′ .natural)
+    ↔ SameTold m (weakPins (r .reaches .fields .weak) s) (weakPins (r′ .reaches .fields .weak) t) (r .found) (r′ .found)

@@ -4,9 +4,10 @@ use mathlib.Core.Path.{_≡_}
 use mathlib.Core.List.{List}
 use mathlib.Core.Bool.{Bool, true}
 use lib.ListN.{drop}
-use Rattle.numbers.specs.Numbers.{done}
+use Rattle.numbers.specs.Numbers.{Outcome, done}
 use Rattle.settings.specs.declared.Settings.{Settings}
 use Rattle.frame.specs.Frame.{isFramed, codeOf}
+use Rattle.frame.specs.declared.Code.{Code}
 use Rattle.frame.specs.declared.Code.the-variants as code
 use Rattle.offsets.specs.Offsets.{pinWithNatural}
 use Rattle.fields.specs.Fields as field
@@ -17,25 +18,42 @@ use Rattle.bk.specs.declared.Bk.{Bk}
 use Rattle.commands.specs.Commands.{roomToAnswer}
 use Rattle.claims_alike.specs.Alike.{Outside}
 
+-- ---- of any command
+
+-- a run that is not refused before its block is looked at: there is room, the command has a frame, this code and fields that are read,
+-- and what the key box answered is taken
+pub record Reached {A R : Type 0} (command : Code) (reader : List ℕ → ℕ → field.Stage A) (box : Outcome R) (header room : ℕ) (s : List ℕ) : Type 0 where
+  pub roomy : roomToAnswer ≤ room
+  pub framed : isFramed header s ≡ true
+  pub coded : codeOf (drop header s) ≡ command
+  pub fields : A
+  pub past : ℕ
+  pub read : reader s (header + 2) ≡ field.read fields past
+  pub rows : R
+  pub boxed : box ≡ done rows
+
+-- and not before its PIN is read: what is found with command and rows, a PIN or a PIN with its natural PIN
+pub record Finds {A R P : Type 0} (command : Code) (reader : List ℕ → ℕ → field.Stage A) (box : Outcome R) (pinIn : List ℕ → A → R → Outcome P) (header room : ℕ) (s : List ℕ)
+    : Type 0 where
+  pub reaches : Reached command reader box header room s
+  pub found : P
+  pub paired : pinIn s (reaches .fields) (reaches .rows) ≡ done found
+
+-- ---- of BK
+
 -- "alike except for the sixteen characters of the enciphered PIN block", which begin at a place
 abbrev pub AlikeBut : ℕ → List ℕ → List ℕ → Type 0
 AlikeBut place s t = Outside 16 place s t
 
--- a run that is not refused before its block is looked at: there is room, the command is a BK with a frame and its fields, both slices
--- have 8 bytes and both parities are good
-pub record Reaches (settings : Settings) (pinKeyGood pvkGood : Bool) (room : ℕ) (s block enciphered : List ℕ) : Type 0 where
-  pub roomy : roomToAnswer ≤ room
-  pub framed : isFramed (settings .header) s ≡ true
-  pub coded : codeOf (drop (settings .header) s) ≡ code.Bk
-  pub fields : Bk
-  pub past : ℕ
-  pub read : bkFields (settings .restricted) s (settings .header + 2) ≡ field.read fields past
-  pub rows : List ℕ × List ℕ
-  pub boxed : keybox.boxed pinKeyGood pvkGood block enciphered ≡ done rows
+-- both slices have 8 bytes and both parities are good
+abbrev pub Reaches : Settings → Bool → Bool → ℕ → List ℕ → List ℕ → List ℕ → Type 0
+Reaches settings pinKeyGood pvkGood room s block enciphered =
+    Reached code.Bk (bkFields (settings .restricted)) (keybox.boxed pinKeyGood pvkGood block enciphered) (settings .header) room s
 
--- its PIN and its natural PIN: it is not refused before its PIN is read
-pub record Reads (settings : Settings) (pinKeyGood pvkGood : Bool) (room : ℕ) (s block enciphered : List ℕ) : Type 0 where
-  pub reaches : Reaches settings pinKeyGood pvkGood room s block enciphered
-  pub pin : List ℕ
-  pub natural : List ℕ
-  pub paired : pinWithNatural (reaches .fields .sealed .format) (tableIn s (reaches .fields .offsetting)) (reaches .rows .0, accountIn s (reaches .fields .offsetting), reaches .rows .1) ≡ done (pin, natural)
+-- its PIN and its natural PIN
+abbrev pub pairIn : List ℕ → Bk → List ℕ × List ℕ → Outcome (List ℕ × List ℕ)
+pairIn s p rows = pinWithNatural (p .sealed .format) (tableIn s (p .offsetting)) (rows .0, accountIn s (p .offsetting), rows .1)
+
+abbrev pub Reads : Settings → Bool → Bool → ℕ → List ℕ → List ℕ → List ℕ → Type 0
+Reads settings pinKeyGood pvkGood room s block enciphered =
+    Finds code.Bk (bkFields (settings .restricted)) (keybox.boxed pinKeyGood pvkGood block enciphered) pairIn (settings .header) room s

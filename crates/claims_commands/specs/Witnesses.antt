@@ -92,9 +92,9 @@ pub record Meets (settings : Settings) (m : ℕ) (weak : List ℕ) (a b : Run) :
   pub first : Reads settings true true roomToAnswer (command (a .sealed) weak) (a .block) (a .enciphered)
   pub second : Reads settings true true roomToAnswer (command (b .sealed) weak) (b .block) (b .enciphered)
   pub alike : AlikeBut (first .reaches .fields .sealed .block) (command (a .sealed) weak) (command (b .sealed) weak)
-  pub long : length (first .pin) ≡ length (second .pin)
-  pub covered : covers (settings .variable) (first .reaches .fields .offsetting .check) (length (first .pin)) ≡ done m
-  pub apart : first .pin ≡ second .pin → ⊥
+  pub long : length (first .found .0) ≡ length (second .found .0)
+  pub covered : covers (settings .variable) (first .reaches .fields .offsetting .check) (length (first .found .0)) ≡ done m
+  pub apart : first .found .0 ≡ second .found .0 → ⊥
 
 abbrev pub Agree : Settings → ℕ → List ℕ → Run → Run → Type 0
 Agree settings m weak a b = Meets settings m weak a b × (answer settings weak a ≡ answer settings weak b)
@@ -112,8 +112,8 @@ UnlikeRuns = Differ usually 4 [] runP9 runOther
 -- the differences do not agree over all five digits, but over the four that are covered: the runs answer alike
 pub record UncoveredRuns : Type 0 where
   pub met : Meets usually 4 [] runP9 runLastFour
-  pub five : offsetOf 5 (met .first .pin) (met .first .natural) ≡ offsetOf 5 (met .second .pin) (met .second .natural) → ⊥
-  pub four : offsetOf 4 (met .first .pin) (met .first .natural) ≡ offsetOf 4 (met .second .pin) (met .second .natural)
+  pub five : offsetOf 5 (met .first .found .0) (met .first .found .1) ≡ offsetOf 5 (met .second .found .0) (met .second .found .1) → ⊥
+  pub four : offsetOf 4 (met .first .found .0) (met .first .found .1) ≡ offsetOf 4 (met .second .found .0) (met .second .found .1)
   pub agree : answer usually [] runP9 ≡ answer usually [] runLastFour
 
 -- with variable length all five are covered: the runs of equal differences answer alike, and those that differ in the first do not
