@@ -46,7 +46,7 @@ unfolding bkFinish
 finish-read settings g h room s block enciphered r m c = rw (r .paired, c)
 
 pub offsets-tell-differences : OffsetsTellDifferences
-offsets-tell-differences settings g h room room′ m s t block block′ enciphered enciphered′ r r′ alike long c =
+offsets-tell-differences settings g h room room′ s t block block′ enciphered enciphered′ r r′ m alike long c =
     let a = r .reaches in
     let b = r′ .reaches in
     let same = read-alike (settings .restricted) s t (settings .header + 2) (a .fields) (b .fields) (a .past) (b .past) (a .read) (b .read) alike in

@@ -5,4 +5,6 @@ pub mod Differences
 pub mod Witnesses
 pub mod Fields
 pub mod Numbers
+pub mod Bytes
+pub mod PinsRead
 pub mod Cores

@@ -129,7 +129,7 @@ abbrev Framed : Bool → Refusal → Type 0
 Framed variable = In (framedRefusals variable)
 
 -- what passes at each of them passes at a refusal that is given
-framed-passes : (p : ℕ → Bool) → every p (81 ∷ others) ≡ true → (variable : Bool) (q : Refusal) → Framed variable q → p (numberOf q) ≡ true
+pub framed-passes : (p : ℕ → Bool) → every p (81 ∷ others) ≡ true → (variable : Bool) (q : Refusal) → Framed variable q → p (numberOf q) ≡ true
 unfolding every
 framed-passes p h true q c = listed-passes p (numberOf q) others (and-right (p 81) (every p others) h) c
 framed-passes p h false q c = listed-passes p (numberOf q) (81 ∷ others) h c
@@ -192,7 +192,7 @@ module _ (settings : Settings) (g h : Bool) (s block enciphered : List ℕ) wher
   answer-by-gives Other at = refused-only Answer Code68 (among (settings .variable) Code68 refl)
 
   -- what a command that has a frame is refused for
-  commanded-gives : (code : ℕ) → Only Answer (commanded settings g h s block enciphered code)
+  pub commanded-gives : (code : ℕ) → Only Answer (commanded settings g h s block enciphered code)
   commanded-gives code =
       then-only Answer (answerBy (codeOf (drop code s)) settings g h s (code + 2) block enciphered) _ (answer-by-gives (codeOf (drop code s)) (code + 2))
       (λ d. done-only Answer (bkPayload s d))
