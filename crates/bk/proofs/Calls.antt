@@ -4,6 +4,7 @@ use Prim.Native.Nat.{ℕ}
 use mathlib.Core.Path.{_≡_, ap}
 use mathlib.Core.List.{List}
 use mathlib.Core.Bool.{Bool}
+use lib.ListN.{length}
 use Rattle.nibbles.specs.Nibbles.{word, row}
 use Rattle.nibbles.proofs.Lists.{Below}
 use Rattle.numbers.specs.Numbers.{refused}
@@ -13,24 +14,26 @@ use Rattle.pins.specs.Answers.{readingOf, rowOf}
 use Rattle.pins.specs.declared.Pin.{Pin}
 use Rattle.pins.specs.declared.Reading.the-variants as reading
 use Rattle.pins.proofs.Laws.{reading-got, reading-bad}
-use Rattle.blocks.specs.Answers.{blockOf}
 use Rattle.validation.specs.Validation.{validationRow}
-use Rattle.validation.proofs.Laws.{row-sixteen, row-block}
+use Rattle.validation.proofs.Laws.{row-sixteen}
 use Rattle.keybox.specs.KeyBox.{boxed}
 use Rattle.keybox.specs.Answers.{boxRead}
 use Rattle.keybox.specs.declared.Boxed.{Boxed}
 use Rattle.keybox.specs.declared.BoxRead.the-variants as box-read
 use Rattle.keybox.proofs.Laws.{box-found, box-bad}
 use Rattle.fields.specs.declared.Fault.{Fault}
+use Rattle.responses.specs.Answers.{askedRow, askedOf, answeredOf}
+use Rattle.responses.specs.declared.Payload.the-variants.{Offset}
+use Rattle.responses.specs.declared.Answered.the-variants as answered
+use Rattle.responses.proofs.Laws.{row-asked}
 use Rattle.stages.specs.Stages.{accountIn, validationIn}
 use Rattle.stages.proofs.Laws.{values-length, values-below, values-row}
 use Rattle.bk.proofs.Places.{placed}
 use Rattle.bk.proofs.Reading.{fields-found, fields-bad}
 use Rattle.bk.specs.Bk.{bkFields, bkAsk, bkFinish, bkAnswer}
-use Rattle.bk.specs.Answers.{Placed, bkRead, finishedOf}
+use Rattle.bk.specs.Answers.{Placed, bkRead}
 use Rattle.bk.specs.declared.Bk.{Bk}
 use Rattle.bk.specs.declared.BkRead.the-variants as fields
-use Rattle.bk.specs.declared.Finished.the-variants as finished
 
 -- the fields that the code found have their places in the command
 pub found-placed : (restricted : Bool) (s : List ℕ) (at : ℕ) (p : Bk) → fields.Got p ≡ bkRead (bkFields restricted s at) → Placed s p
@@ -40,55 +43,55 @@ found-placed restricted s at p e = let f = fields-found (bkFields restricted s a
 
 module _ (settings : Settings) (s : List ℕ) (at : ℕ) where
   -- a field is at fault
-  pub ask-faulty : (f : Fault) → fields.Bad f ≡ bkRead (bkFields (settings .restricted) s at) → bkAsk settings s at ≡ refused (f .refusal)
+  pub ask-faulty : (f : Fault) → fields.Bad f ≡ bkRead (bkFields (settings .restricted) s at) → bkAsk settings s at ≡ refused f
   unfolding bkAsk
   ask-faulty f e = rw (fields-bad (bkFields (settings .restricted) s at) f e)
 
   -- the row that the validation data stand for is that of the block
   pub ask-row :
       (p : Bk) → fields.Got p ≡ bkRead (bkFields (settings .restricted) s at) → (account : ℕ) → account ≡ word (accountIn s (p .offsetting))
-      → rowOf (validationRow (row 12 account) (validationIn s (p .offsetting))) ≡ blockOf (bkAsk settings s at)
+      → askedRow (rowOf (validationRow (row 12 account) (validationIn s (p .offsetting)))) ≡ askedOf (bkAsk settings s at)
   unfolding bkAsk
   ask-row p e account a =
       let inside = found-placed (settings .restricted) s at p e .account in
       let from = p .offsetting .account in
       rw (fields-found (bkFields (settings .restricted) s at) p e .1, values-row s from 12 inside account a)
-      (row-block (validationRow (accountIn s (p .offsetting)) (validationIn s (p .offsetting)))
+      (row-asked (validationRow (accountIn s (p .offsetting)) (validationIn s (p .offsetting)))
       (λ ns. row-sixteen (accountIn s (p .offsetting)) (validationIn s (p .offsetting)) ns (values-length s from 12 inside) (values-below s from 12 inside)))
 
 -- ---- the answering call
 
 module _ (settings : Settings) (g h : Bool) (s : List ℕ) (at : ℕ) (block enciphered : List ℕ) where
   -- a field is at fault
-  pub answer-faulty : (f : Fault) → fields.Bad f ≡ bkRead (bkFields (settings .restricted) s at) → bkAnswer settings g h s at block enciphered ≡ refused (f .refusal)
+  pub answer-faulty : (f : Fault) → fields.Bad f ≡ bkRead (bkFields (settings .restricted) s at) → bkAnswer settings g h s at block enciphered ≡ refused f
   unfolding bkAnswer
   answer-faulty f e = rw (fields-bad (bkFields (settings .restricted) s at) f e)
 
   module _ (p : Bk) (got : fields.Got p ≡ bkRead (bkFields (settings .restricted) s at)) where
     -- the key box's answers are
-    pub answer-unboxed : (q : Refusal) → box-read.Bad q ≡ boxRead (boxed g h block enciphered) → bkAnswer settings g h s at block enciphered ≡ refused q
+    pub answer-unboxed : (f : Fault) → box-read.Bad f ≡ boxRead (boxed (length s) g h block enciphered) → bkAnswer settings g h s at block enciphered ≡ refused f
     unfolding bkAnswer
-    answer-unboxed q e = rw (fields-found (bkFields (settings .restricted) s at) p got .1, box-bad (boxed g h block enciphered) q e)
+    answer-unboxed f e = rw (fields-found (bkFields (settings .restricted) s at) p got .1, box-bad (boxed (length s) g h block enciphered) f e)
 
-    module _ (b : Boxed) (small : Below 256 block) (little : Below 256 enciphered) (box : box-read.Got b ≡ boxRead (boxed g h block enciphered)) where
+    module _ (b : Boxed) (small : Below 256 block) (little : Below 256 enciphered) (box : box-read.Got b ≡ boxRead (boxed (length s) g h block enciphered)) where
       -- there is no offset
       pub answer-unfinished :
           (q : Refusal) → reading.Bad q ≡ readingOf (bkFinish (settings .variable) s p (row 16 (b .block), row 16 (b .enciphered)))
-          → bkAnswer settings g h s at block enciphered ≡ refused q
+          → bkAnswer settings g h s at block enciphered ≡ refused (record { refusal = q; field = 0; place = 0 })
       unfolding bkAnswer
       answer-unfinished q e =
           rw (
             fields-found (bkFields (settings .restricted) s at) p got .1,
-            box-found g h block enciphered small little b box,
+            box-found (length s) g h block enciphered small little b box,
             reading-bad (bkFinish (settings .variable) s p (row 16 (b .block), row 16 (b .enciphered))) q e,
           )
 
       -- there is one
       pub answer-made :
-          (offset : Pin) → reading.Got offset ≡ readingOf (bkFinish (settings .variable) s p (row 16 (b .block), row 16 (b .enciphered)))
-          → finished.Offset offset (p .trailer) ≡ finishedOf (bkAnswer settings g h s at block enciphered)
+          (ds : Pin) → reading.Got ds ≡ readingOf (bkFinish (settings .variable) s p (row 16 (b .block), row 16 (b .enciphered)))
+          → answered.With (Offset ds) (p .trailer) ≡ answeredOf (bkAnswer settings g h s at block enciphered)
       unfolding bkAnswer
-      answer-made offset e =
-          let o = reading-got (bkFinish (settings .variable) s p (row 16 (b .block), row 16 (b .enciphered))) offset e in
-          rw (fields-found (bkFields (settings .restricted) s at) p got .1, box-found g h block enciphered small little b box, o .1)
-          (ap (λ (x : Pin). finished.Offset x (p .trailer)) (o .2))
+      answer-made ds e =
+          let o = reading-got (bkFinish (settings .variable) s p (row 16 (b .block), row 16 (b .enciphered))) ds e in
+          rw (fields-found (bkFields (settings .restricted) s at) p got .1, box-found (length s) g h block enciphered small little b box, o .1)
+          (ap (λ (x : Pin). answered.With (Offset x) (p .trailer)) (o .2))

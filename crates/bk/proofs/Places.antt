@@ -9,7 +9,7 @@ use lib.ListN.{length, length-map, length-drop}
 use Rattle.nibbles.specs.Nibbles.{packs, every}
 use Rattle.nibbles.proofs.Lists.{Below}
 use Rattle.nibbles.proofs.Runs.{below-every}
-use Rattle.numbers.specs.Numbers.{done}
+use Rattle.numbers.specs.Numbers.{done, andThen}
 use Rattle.numbers.specs.declared.Refusal.the-variants.{Weak86}
 use Rattle.numbers.proofs.Laws.{then-done, passed, value-of}
 use Rattle.settings.specs.declared.Settings.{Settings}
@@ -24,8 +24,11 @@ use Rattle.offsets.specs.Offsets.{pinWithNatural, offsetFor}
 use Rattle.offsets.proofs.Laws.{with-natural-fit}
 use Rattle.keybox.specs.KeyBox.{boxed}
 use Rattle.keybox.proofs.Laws.{boxed-sixteen}
-use Rattle.fields.specs.Fields.{Stage, read, faulty, onward, outcome}
+use Rattle.fields.specs.Fields.{Stage, read, faulty, onward, ruled, unpointed, pointing}
 use Rattle.fields.proofs.Reading.{onward-read, read-once}
+use Rattle.fields.proofs.Rulings.{pointing-done}
+use Rattle.responses.specs.Responses.{Payload, offset}
+use Rattle.responses.proofs.Laws.{Fine, Sound}
 use Rattle.keys.specs.declared.Use.the-variants.{PinKey, Pvk}
 use Rattle.weak.specs.Weak.{isOn, weakPins}
 use Rattle.weak.specs.declared.Weak.{Weak}
@@ -75,10 +78,10 @@ placed restricted s at p past e =
     subst (Placed s) (read-once (o₁₁ .3) .0)
     (laid s (o₁ .0) (o₄ .0) (o₆ .0) (o₁₀ .0) (o₁₁ .0) (o₄ .1) (o₆ .1) (o₁₀ .1) (o₁₁ .1) (o₆ .2) (o₁₀ .2) (o₁₁ .2))
 
--- what the host meets of a stage that was read
-pub outcome-read : {A : Type 0} (stage : Stage A) (a : A) → outcome stage ≡ done a → (past : ℕ) × (stage ≡ read a past)
-outcome-read (read b past) a e = (past, ap (λ (x : _). read x past) (value-of e))
-outcome-read (faulty f) a e = absurd (let z : _≡_ {A = ℕ} 0 1 = cc in omega arith)
+-- a stage that was read
+pub ruled-read : {A : Type 0} (stage : Stage A) (a : A) → ruled stage ≡ done a → (past : ℕ) × (stage ≡ read a past)
+ruled-read (read b past) a e = (past, ap (λ (x : _). read x past) (value-of e))
+ruled-read (faulty f) a e = absurd (let z : _≡_ {A = ℕ} 0 1 = cc in omega arith)
 
 -- ---- the asking call
 
@@ -86,13 +89,14 @@ outcome-read (faulty f) a e = absurd (let z : _≡_ {A = ℕ} 0 1 = cc in omega 
 pub asked-row : (settings : Settings) (s : List ℕ) (at : ℕ) (bytes : List ℕ) → bkAsk settings s at ≡ done bytes → (ns : List ℕ) × Sixteen ns × (bytes ≡ packs ns)
 unfolding bkAsk
 asked-row settings s at bytes e =
-    let f = then-done (outcome (bkFields (settings .restricted) s at)) _ bytes e in
+    let f = then-done (ruled (bkFields (settings .restricted) s at)) _ bytes e in
     let p = f .0 in
-    let r = outcome-read (bkFields (settings .restricted) s at) p (f .1) in
+    let r = ruled-read (bkFields (settings .restricted) s at) p (f .1) in
     let inside = placed (settings .restricted) s at p (r .0) (r .1) .account in
-    let v = then-done (validationRow (accountIn s (p .offsetting)) (validationIn s (p .offsetting))) _ bytes (f .2) in
+    let v = then-done (unpointed (validationRow (accountIn s (p .offsetting)) (validationIn s (p .offsetting)))) _ bytes (f .2) in
     let account = p .offsetting .account in
-    (v .0, row-sixteen (accountIn s (p .offsetting)) (validationIn s (p .offsetting)) (v .0) (values-length s account 12 inside) (values-below s account 12 inside) (v .1), sym (value-of (v .2)))
+    let made = pointing-done 0 0 (validationRow (accountIn s (p .offsetting)) (validationIn s (p .offsetting))) (v .0) (v .1) in
+    (v .0, row-sixteen (accountIn s (p .offsetting)) (validationIn s (p .offsetting)) (v .0) (values-length s account 12 inside) (values-below s account 12 inside) made, sym (value-of (v .2)))
 
 -- it has eight bytes
 pub asked-eight : (settings : Settings) (s : List ℕ) (at : ℕ) (bytes : List ℕ) → bkAsk settings s at ≡ done bytes → length bytes ≡ 8
@@ -134,27 +138,18 @@ finish-within variable s p rows ds inside b c e =
     let w = offset-within variable (p .offsetting .check) (n .0) (o .0) (fit .4) (o .1) in
     (subst (λ (os : List ℕ). length os ≤ 12) same (omega (arith, w .0, fit .1)), subst (Below 10) same (w .1))
 
--- what an answer holds: an offset of at most twelve digits, and the place of the trailer's mark, at most 33 bytes before the end
-pub record Answered (s : List ℕ) (d : List ℕ × ℕ) : Type 0 where
-  pub short : length (d .0) ≤ 12
-  pub digits : Below 10 (d .0)
-  pub inside : d .1 ≤ length s
-  pub tail : length s ≤ d .1 + 33
-
-module _ (settings : Settings) (g h : Bool) (s : List ℕ) (at : ℕ) (block enciphered : List ℕ) (d : List ℕ × ℕ) where
-  pub answer-held : bkAnswer settings g h s at block enciphered ≡ done d → Answered s d
-  unfolding bkAnswer
-  answer-held e =
-      let f = then-done (outcome (bkFields (settings .restricted) s at)) _ d e in
-      let p = f .0 in
-      let r = outcome-read (bkFields (settings .restricted) s at) p (f .1) in
-      let inside = placed (settings .restricted) s at p (r .0) (r .1) in
-      let k = then-done (boxed g h block enciphered) _ d (f .2) in
-      let sixteen = boxed-sixteen g h block enciphered (k .0) (k .1) in
-      let o = then-done (bkFinish (settings .variable) s p (k .0)) _ d (k .2) in
-      let w = finish-within (settings .variable) s p (k .0) (o .0) inside (sixteen .0) (sixteen .1) (o .1) in
-      subst (Answered s) (value-of (o .2)) (record { short = w .0; digits = w .1; inside = inside .trailer; tail = inside .tail })
-
-  -- there is room for it behind the longest header
-  pub brief : bkAnswer settings g h s at block enciphered ≡ done d → (length (d .0) ≤ 12) × (d .1 ≤ length s) × (length s ≤ d .1 + 33)
-  brief e = let a = answer-held e in (a .short, a .inside, a .tail)
+-- what it answers fits a response
+pub answer-sound : (settings : Settings) (g h : Bool) (s : List ℕ) (at : ℕ) (block enciphered : List ℕ) (d : Payload × ℕ) → bkAnswer settings g h s at block enciphered ≡ done d → Sound s d
+unfolding bkAnswer
+answer-sound settings g h s at block enciphered d e =
+    let f = then-done (ruled (bkFields (settings .restricted) s at)) _ d e in
+    let p = f .0 in
+    let r = ruled-read (bkFields (settings .restricted) s at) p (f .1) in
+    let inside = placed (settings .restricted) s at p (r .0) (r .1) in
+    let k = then-done (boxed (length s) g h block enciphered) _ d (f .2) in
+    let sixteen = boxed-sixteen (length s) g h block enciphered (k .0) (k .1) in
+    let o = then-done (unpointed (andThen (bkFinish (settings .variable) s p (k .0)) (λ ds. done (offset ds)))) _ d (k .2) in
+    let made = pointing-done 0 0 (andThen (bkFinish (settings .variable) s p (k .0)) (λ ds. done (offset ds))) (o .0) (o .1) in
+    let n = then-done (bkFinish (settings .variable) s p (k .0)) _ (o .0) made in
+    let fine : Fine (offset (n .0)) = finish-within (settings .variable) s p (k .0) (n .0) inside (sixteen .0) (sixteen .1) (n .1) in
+    subst (Sound s) (value-of (o .2)) (record { payload = subst Fine (value-of (n .2)) fine; inside = inside .trailer; tail = inside .tail })

@@ -6,11 +6,8 @@ use mathlib.Core.Bool.{true}
 use lib.ListN.{length}
 use Rattle.alphabet.specs.Alphabet.{allOf}
 use Rattle.alphabet.specs.declared.Class.the-variants.{Digit}
-use Rattle.numbers.specs.Numbers.{Outcome, done, refused}
-use Rattle.numbers.specs.declared.Refusal.{Refusal}
-use Rattle.numbers.specs.declared.Refusal.the-variants.{Field15}
-use Rattle.pins.specs.Answers.{pinOf}
 use Rattle.fields.specs.Fields.{Stage, read, faulty}
+use Rattle.fields.specs.Answers.{noFault}
 use Rattle.fields.specs.declared.Fault.{Fault}
 use Rattle.weak.specs.Answers.{Lies}
 use Rattle.validation.specs.Answers.{shapeOf, shapeWidth}
@@ -18,27 +15,16 @@ use Rattle.stages.specs.Stages.{part, validationIn}
 use Rattle.bk.specs.declared.Bk.{Bk}
 use Rattle.bk.specs.declared.BkRead.{BkRead}
 use Rattle.bk.specs.declared.BkRead.the-variants as fields
-use Rattle.bk.specs.declared.Finished.{Finished}
-use Rattle.bk.specs.declared.Finished.the-variants as finished
 
 -- the fields, or the fault
 abbrev pub bkRead : Stage Bk → BkRead
 bkRead (read p at) = fields.Got p
 bkRead (faulty f) = fields.Bad f
 
--- what the host meets of the fault, where there is one
-abbrev pub fieldsRefusal : BkRead → Refusal
-fieldsRefusal (fields.Got p) = Field15
-fieldsRefusal (fields.Bad f) = f .refusal
-
--- a finished command: the offset and the place of the trailer's mark, or the refusal
-abbrev pub finishedOf : Outcome (List ℕ × ℕ) → Finished
-finishedOf (done answer) = finished.Offset (pinOf (answer .0)) (answer .1)
-finishedOf (refused q) = finished.Bad q
-
-abbrev pub refusalIn : Finished → Refusal
-refusalIn (finished.Offset p mark) = Field15
-refusalIn (finished.Bad q) = q
+-- why there are no fields, where there are none
+abbrev pub fieldsFault : BkRead → Fault
+fieldsFault (fields.Got p) = noFault
+fieldsFault (fields.Bad f) = f
 
 -- the places lie in the command, the table has digits, and the shape is that of the validation data
 pub record Placed (s : List ℕ) (p : Bk) : Type 0 where

@@ -1,17 +1,17 @@
 -- "The BK command, field after field", and its finish: the offset for a terminal PIN.
 use Prim.Native.Nat.{ℕ}
-use mathlib.Core.List.{List, _++_}
+use mathlib.Core.List.{List}
 use mathlib.Core.Bool.{Bool, not}
-use lib.ListN.{drop}
+use lib.ListN.{length}
 use Rattle.nibbles.specs.Nibbles.{packs}
 use Rattle.numbers.specs.Numbers.{Outcome, done, andThen, unless}
 use Rattle.numbers.specs.declared.Refusal.the-variants.{Weak86}
 use Rattle.settings.specs.declared.Settings.{Settings}
 use Rattle.validation.specs.Validation.{validationRow}
-use Rattle.ibm3624.specs.Ibm3624.{offsetText}
 use Rattle.offsets.specs.Offsets.{pinWithNatural, offsetFor}
 use Rattle.keybox.specs.KeyBox.{boxed}
-use Rattle.fields.specs.Fields.{Stage, read, onward, outcome}
+use Rattle.fields.specs.Fields.{Stage, read, onward, Ruling, ruled, unpointed}
+use Rattle.responses.specs.Responses.{Payload, offset, answering}
 use Rattle.keys.specs.declared.Use.the-variants.{PinKey, Pvk}
 use Rattle.weak.specs.Weak.{isOn, weakPins}
 use Rattle.stages.specs.Stages.{keys, sealed, offsetting, weak, accountIn, tableIn, validationIn}
@@ -36,10 +36,10 @@ bkFields restricted s at₁ =
 
 -- "the 8-byte block that the key box must encipher under the PVK"; the validation data were judged as a field, so nothing is refused
 -- behind the fields
-unfoldable pub bkAsk : Settings → List ℕ → ℕ → Outcome (List ℕ)
+unfoldable pub bkAsk : Settings → List ℕ → ℕ → Ruling (List ℕ)
 bkAsk settings s at =
-    andThen (outcome (bkFields (settings .restricted) s at))
-    (λ p. andThen (validationRow (accountIn s (p .offsetting)) (validationIn s (p .offsetting)))
+    andThen (ruled (bkFields (settings .restricted) s at))
+    (λ p. andThen (unpointed (validationRow (accountIn s (p .offsetting)) (validationIn s (p .offsetting))))
     (λ ns. done (packs ns)))
 
 -- ---- the answering call
@@ -49,18 +49,11 @@ unfoldable pub bkFinish : Bool → List ℕ → Bk → List ℕ × List ℕ → 
 bkFinish variable s p rows =
     andThen (pinWithNatural (p .sealed .format) (tableIn s (p .offsetting)) (rows .0, accountIn s (p .offsetting), rows .1))
     (λ pair. andThen (offsetFor variable (p .offsetting .check) pair)
-    (λ offset. unless Weak86 (not (isOn (pair .0) (weakPins (p .weak) s))) offset))
+    (λ ds. unless Weak86 (not (isOn (pair .0) (weakPins (p .weak) s))) ds))
 
--- the fields, then "two slices that are not 8 bytes long (15), 10, 11", then the finish: the offset's digits and the place of the
--- trailer's mark
-unfoldable pub bkAnswer : Settings → Bool → Bool → List ℕ → ℕ → List ℕ → List ℕ → Outcome (List ℕ × ℕ)
+-- the fields, then "two slices that are not 8 bytes long (15), 10, 11", then the finish: an offset, and the place of the trailer's mark
+unfoldable pub bkAnswer : Settings → Bool → Bool → List ℕ → ℕ → List ℕ → List ℕ → Ruling (Payload × ℕ)
 bkAnswer settings pinKeyGood pvkGood s at block enciphered =
-    andThen (outcome (bkFields (settings .restricted) s at))
-    (λ p. andThen (boxed pinKeyGood pvkGood block enciphered)
-    (λ rows. andThen (bkFinish (settings .variable) s p rows)
-    (λ offset. done (offset, p .trailer))))
-
--- what stands behind 00: the offset, "left in 12 characters, filled with F", and "a trailer, with its 19 mark": what the command has
--- from the mark on
-abbrev pub bkPayload : List ℕ → List ℕ × ℕ → List ℕ
-bkPayload s answer = offsetText (answer .0) ++ drop (answer .1) s
+    answering (bkFields (settings .restricted) s at) (boxed (length s) pinKeyGood pvkGood block enciphered)
+    (λ p rows. andThen (bkFinish (settings .variable) s p rows) (λ ds. done (offset ds)))
+    (λ p. p .trailer)

@@ -5,11 +5,11 @@ ghost use Prim.Native.Nat.{_+_, _≤_};
 ghost use lib.ListN.{length};
 ghost use Rattle.nibbles.specs.Nibbles.{word, row};
 ghost use Rattle.alphabet.specs.Alphabet.{valueOf};
-ghost use Rattle.blocks.specs.Answers.{blockOf};
 ghost use Rattle.pins.specs.Answers.{readingOf};
+ghost use Rattle.responses.specs.Answers.{askedOf, answeredOf};
 ghost use Rattle.stages.specs.Stages.{part};
 ghost use Rattle.bk.specs.Bk.{bkFields, bkAsk, bkFinish, bkAnswer};
-ghost use Rattle.bk.specs.Answers.{bkRead, fieldsRefusal, finishedOf, refusalIn, Placed};
+ghost use Rattle.bk.specs.Answers.{bkRead, fieldsFault, Placed};
 use endings::End;
 use fields::Cursor;
 use fields::Fault;
@@ -19,9 +19,10 @@ use keys::Use;
 use numbers::Refusal;
 use offsets::Comparison;
 use offsets::Rows;
-use pins::Pin;
 use pins::Reading;
-use pins::Row;
+use responses::Answered;
+use responses::Asked;
+use responses::Payload;
 use settings::Settings;
 use stages::KeysRead;
 use stages::Offsetting;
@@ -47,32 +48,14 @@ pub enum BkRead {
     Bad(Fault),
 }
 
-// An offset, whose digits are held as a PIN's are, and the place of the trailer's mark; or the refusal.
-pub enum Finished {
-    Offset(Pin, usize),
-    Bad(Refusal),
-}
-
 impl BkRead {
-    // Why there are no fields, as the host meets it; asked only where there are none.
-    pub fn refusal(self) -> Refusal
-        ensures { λ r. ⌜ r ≡ fieldsRefusal self ⌝ }
+    // Why there are no fields; asked only where there are none.
+    pub fn fault(self) -> Fault
+        ensures { λ r. ⌜ r ≡ fieldsFault self ⌝ }
     {
         match self {
-            BkRead::Got(_) => Refusal::Field15,
-            BkRead::Bad(fault) => fault.refusal,
-        }
-    }
-}
-
-impl Finished {
-    // Why there is no offset; asked only where there is none.
-    pub fn refusal(self) -> Refusal
-        ensures { λ r. ⌜ r ≡ refusalIn self ⌝ }
-    {
-        match self {
-            Finished::Offset(_, _) => Refusal::Field15,
-            Finished::Bad(q) => q,
+            BkRead::Got(_) => fields::no_fault(),
+            BkRead::Bad(fault) => fault,
         }
     }
 }
@@ -119,19 +102,20 @@ fn digits_at(command: &[u8], from: usize, n: usize) -> u64
 }
 
 // Judges the asking call behind the command code, and makes the validation block.
-pub fn ask(settings: Settings, command: &[u8], start: Cursor) -> Row
-    ensures { λ r. ⌜ r ≡ blockOf (bkAsk settings (now (command .entry)) (start .at)) ⌝ }
+pub fn ask(settings: Settings, command: &[u8], start: Cursor) -> Asked
+    ensures { λ r. ⌜ r ≡ askedOf (bkAsk settings (now (command .entry)) (start .at)) ⌝ }
 {
     let fields = read(settings.restricted, command, start);
     let BkRead::Got(bk) = fields else {
-        return Row::Refused(fields.refusal());
+        return Asked::Bad(fields.fault());
     };
     let data = bk.offsetting;
     let account = digits_at(command, data.account, 12);
     let from = data.validation;
     let shape = data.shape;
     let to = from + shape.width();
-    shape.row(account, &command[from..to])
+    let row = shape.row(account, &command[from..to]);
+    Asked::of(row)
 }
 
 // The block, 81, 86: the offset's digits.
@@ -172,21 +156,22 @@ pub fn answer(
     start: Cursor,
     block: &[u8],
     enciphered: &[u8],
-) -> Finished
-    ensures { λ r. ⌜ r ≡ finishedOf (bkAnswer settings pinparity pvkparity (now (command .entry)) (start .at) (now (block .entry)) (now (enciphered .entry))) ⌝ }
+) -> Answered
+    ensures { λ r. ⌜ r ≡ answeredOf (bkAnswer settings pinparity pvkparity (now (command .entry)) (start .at) (now (block .entry)) (now (enciphered .entry))) ⌝ }
 {
     // The server hands the command in again, so nothing of the asking call is relied on.
     let reread = read(settings.restricted, command, start);
     let BkRead::Got(bk) = reread else {
-        return Finished::Bad(reread.refusal());
+        return Answered::Bad(reread.fault());
     };
-    let answered = keybox::key_box(pinparity, pvkparity, block, enciphered);
+    let answered = keybox::key_box(command.len(), pinparity, pvkparity, block, enciphered);
     let BoxRead::Got(boxed) = answered else {
-        return Finished::Bad(answered.refusal());
+        return Answered::Bad(answered.fault());
     };
     let finished = finish(settings.variable, command, bk, boxed);
     let Reading::Got(offset) = finished else {
-        return Finished::Bad(finished.refusal());
+        let refusal = finished.refusal();
+        return Answered::Bad(fields::unpointed(refusal));
     };
-    Finished::Offset(offset, bk.trailer)
+    Answered::With(Payload::Offset(offset), bk.trailer)
 }

@@ -18,7 +18,9 @@ use Rattle.stages.specs.declared.Keys.{Keys}
 use Rattle.stages.specs.declared.Sealed.{Sealed}
 use Rattle.bk.specs.Bk.{bkFields}
 use Rattle.bk.specs.declared.Bk.{Bk}
-use Rattle.commands.specs.Commands.{answered, commanded, responding}
+use Rattle.fields.specs.Fields.{heard}
+use Rattle.responses.specs.Responses.{responding}
+use Rattle.commands.specs.Commands.{answered, commanded}
 use Rattle.commands.proofs.Laws.{answered-framed}
 use Rattle.claims_offsets.proofs.Numbers.{never-00}
 use Rattle.claims_alike.proofs.Alike as any
@@ -68,7 +70,7 @@ bytes-tell = bytes-told
 -- ---- two runs
 
 -- their numbers have two digits
-two-digit : (settings : Settings) (g h : Bool) (s block enciphered : List ℕ) (q : Refusal) → commanded settings g h s block enciphered (settings .header) ≡ refused q → numberOf q < 100
+two-digit : (settings : Settings) (g h : Bool) (s block enciphered : List ℕ) (q : Refusal) → heard (commanded settings g h s block enciphered (settings .header)) ≡ refused q → numberOf q < 100
 unfolding every
 two-digit settings g h s block enciphered q e =
     ltb-true (numberOf q) 100 (framed-passes (λ m. ltb m 100) refl (settings .variable) q (commanded-gives settings g h s block enciphered (settings .header) q e))

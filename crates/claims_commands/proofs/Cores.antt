@@ -10,7 +10,7 @@ use lib.Dec.{lit<}
 use borrow.Author.Tests.{le-leb}
 use Rattle.nibbles.specs.Nibbles.{nibs, packs, xors, every, leading, same}
 use Rattle.alphabet.specs.Alphabet.{allOf, begins, valueOf}
-use Rattle.numbers.specs.Numbers.{Outcome, done, refused, andThen, numberOf}
+use Rattle.numbers.specs.Numbers.{Judged, Outcome, done, refused, andThen, numberOf}
 use Rattle.numbers.specs.Promise.{Said, Does, quietly}
 use Rattle.numbers.specs.declared.Refusal.{Refusal}
 use Rattle.numbers.specs.declared.Reply.{Reply}
@@ -26,17 +26,20 @@ use Rattle.frame.specs.Frame as frame
 use Rattle.frame.specs.Frame.{isFramed, framed, opening}
 use Rattle.frame.specs.declared.Code.{Code}
 use Rattle.frame.specs.declared.Code.the-variants.{Bk, Other}
-use Rattle.fields.specs.Fields.{Stage, read, faulty, onward, outcome, run, number, trailer}
+use Rattle.fields.specs.Fields.{Stage, read, faulty, onward, ruled, unpointed, heard, run, number, trailer}
+use Rattle.fields.specs.declared.Fault.{Fault}
+use Rattle.fields.proofs.Rulings.{heard-refused}
 use Rattle.keys.specs.Keys.{keyType, hexKey, lettered, key, lmkField}
 use Rattle.weak.specs.Weak.{weakField, entries, isOn}
-use Rattle.keybox.specs.KeyBox.{boxed}
+use Rattle.keybox.specs.KeyBox.{slices, parities, boxed}
+use Rattle.responses.specs.Responses.{responding}
 use Rattle.validation.specs.Answers.{shapeOf}
 use Rattle.stages.proofs.Laws.{offsetting-held}
 use Rattle.stages.specs.Stages.{keys, formatField, sealed, validationField, offsetting, weak, accountIn, validationIn}
 use Rattle.endings.specs.Endings.{end}
 use Rattle.bk.specs.Bk.{bkFields, bkAsk, bkFinish, bkAnswer}
 use Rattle.bk.specs.declared.Bk as bk
-use Rattle.commands.specs.Commands.{askBy, answerBy, commanded, responding, silently, asked, answered}
+use Rattle.commands.specs.Commands.{askBy, answerBy, commanded, silently, asking, asked, answered}
 use Rattle.claims_blocks.specs.Figures.{usualAccount}
 use Rattle.claims_blocks.specs.Promises.{Only00, Apart}
 use Rattle.claims_offsets.specs.Figures.{blockP2, encipheredP9}
@@ -78,7 +81,7 @@ response offset = record { number = 0; written = (0x48 ∷ 0x44 ∷ 0x52 ∷ 0x3
 
 -- more room than enough changes nothing
 ask-room : (settings : Settings) (s : List ℕ) (room : ℕ) → 8 ≤ room → asked settings s room ≡ asked settings s 8
-unfolding asked
+unfolding asking
 ask-room settings s room h = rw (le-leb 8 room h)
 
 answer-room : (settings : Settings) (g h : Bool) (s block enciphered : List ℕ) (room : ℕ) → 65 ≤ room → answered settings g h s block enciphered room ≡ answered settings g h s block enciphered 65
@@ -88,7 +91,7 @@ answer-room settings g h s block enciphered room k = rw (le-leb 65 room k)
 -- computed: the block of each account
 asks-said : (before : List ℕ) → 8 ≤ length before → (asks usualAccount before ≡ blockWith 0x56) × (asks otherAccount before ≡ blockWith 0x57)
 unfolding packs leading allOf begins valueOf codeOf isFramed run number trailer keyType hexKey lettered key lmkField weakField keys formatField sealed shapeOf validationField offsetting weak end bkFields
-    validationRow bkAsk askBy asked
+    validationRow bkAsk askBy asking
 asks-said before h =
     (ap quietly (ask-room usually (commandOf usualAccount) (length before) h) ∙ refl, ap quietly (ask-room usually (commandOf otherAccount) (length before) h) ∙ refl)
 
@@ -96,7 +99,7 @@ asks-said before h =
 answers-said : (before : List ℕ) → 65 ≤ length before
     → (answers encipheredP9 before ≡ response (0x39 ∷ 0x32 ∷ 0x34 ∷ 0x37 ∷ [])) × (answers encipheredZeros before ≡ response (0x34 ∷ 0x35 ∷ 0x36 ∷ 0x37 ∷ []))
 unfolding nibs xors every leading same allOf begins valueOf codeOf isFramed opening run number trailer keyType hexKey lettered key lmkField weakField entries isOn keys formatField sealed
-    shapeOf validationField offsetting weak end boxed bkFields contents readRow pinWithNatural differences bkFinish bkAnswer answerBy answered
+    shapeOf validationField offsetting weak end slices parities boxed bkFields contents readRow pinWithNatural differences bkFinish bkAnswer answerBy answered
 answers-said before h = (
   answer-room usually true true (commandOf usualAccount) blockP2 encipheredP9 (length before) h ∙ refl,
   answer-room usually true true (commandOf usualAccount) blockP2 encipheredZeros (length before) h ∙ refl,
@@ -126,10 +129,10 @@ papers-exchange = (λ before h. asks-said before h .0, λ before h. answers-said
 
 -- ---- the reading of the fields
 
-refusal-of : {A : Type 0} {p q : Refusal} → _≡_ {A = Outcome A} (refused p) (refused q) → p ≡ q
+refusal-of : {Q A : Type 0} {p q : Q} → _≡_ {A = Judged Q A} (refused p) (refused q) → p ≡ q
 refusal-of e = cc
 
-not-refused : {A : Type 0} {a : A} {q : Refusal} → done a ≡ refused q → ⊥
+not-refused : {Q A : Type 0} {a : A} {q : Q} → _≡_ {A = Judged Q A} (done a) (refused q) → ⊥
 not-refused e = let z : _≡_ {A = ℕ} 0 1 = cc in omega arith
 
 -- the check length and the fields behind it were read
@@ -150,37 +153,39 @@ measured restricted s at p past e =
         h ∙ ap (λ (q : bk.Bk). read (q .offsetting) at₁₀) (read-once (u .3) .0)
 
 -- the asking call refuses nothing behind the fields
-fields-refuse : (settings : Settings) (s : List ℕ) (at : ℕ) (q : Refusal) → bkAsk settings s at ≡ refused q → outcome (bkFields (settings .restricted) s at) ≡ refused q
+fields-refuse : (settings : Settings) (s : List ℕ) (at : ℕ) (f : Fault) → bkAsk settings s at ≡ refused f → ruled (bkFields (settings .restricted) s at) ≡ refused f
 unfolding bkAsk
 fields-refuse settings s at q = by-fields (bkFields (settings .restricted) s at) refl
   where
     by-fields :
         (stage : Stage bk.Bk) → bkFields (settings .restricted) s at ≡ stage
-        → andThen (outcome stage) (λ p. andThen (validationRow (accountIn s (p .offsetting)) (validationIn s (p .offsetting))) (λ ns. done (packs ns))) ≡ refused q → outcome stage ≡ refused q
+        → andThen (ruled stage) (λ p. andThen (unpointed (validationRow (accountIn s (p .offsetting)) (validationIn s (p .offsetting)))) (λ ns. done (packs ns))) ≡ refused q → ruled stage ≡ refused q
     by-fields (read p past) f e =
         let h = measured (settings .restricted) s at p past f in
         let row = row-of-valid (accountIn s (p .offsetting)) (validationIn s (p .offsetting)) (offsetting-held 6 s (h .0) (p .offsetting) (h .1) (h .2) .valid) in
         absurd (not-refused (rw (row .1) at e))
     by-fields (faulty f) _ e = ap refused (refusal-of e)
 
-module _ (settings : Settings) (g h : Bool) (s block enciphered : List ℕ) (q : Refusal) where
+module _ (settings : Settings) (g h : Bool) (s block enciphered : List ℕ) where
   -- so the answering call refuses in them too
-  answer-refuses : (at : ℕ) → bkAsk settings s at ≡ refused q → bkAnswer settings g h s at block enciphered ≡ refused q
+  answer-refuses : (at : ℕ) (f : Fault) → bkAsk settings s at ≡ refused f → bkAnswer settings g h s at block enciphered ≡ refused f
   unfolding bkAnswer
-  answer-refuses at e = rw (fields-refuse settings s at q e)
+  answer-refuses at f e = rw (fields-refuse settings s at f e)
 
-  by-code : (c : Code) (at : ℕ) → askBy c settings s at ≡ refused q → answerBy c settings g h s at block enciphered ≡ refused q
+  by-code : (c : Code) (at : ℕ) (f : Fault) → askBy c settings s at ≡ refused f → answerBy c settings g h s at block enciphered ≡ refused f
   unfolding askBy answerBy
-  by-code Bk at e = answer-refuses at e
-  by-code Other at e = ap refused (refusal-of e)
+  by-code Bk at f e = answer-refuses at f e
+  by-code Other at f e = ap refused (refusal-of e)
 
   by-frame :
-      (o : Outcome ℕ) → andThen o (λ code. askBy (frame.codeOf (drop code s)) settings s (code + 2)) ≡ refused q
-      → silently (andThen o (λ code. done (responding (settings .header) s (commanded settings g h s block enciphered code)))) .number ≡ numberOf q
-  by-frame (done code) e = rw (by-code (frame.codeOf (drop code s)) (code + 2) e)
-  by-frame (refused p) e = ap numberOf (refusal-of e)
+      (o : Outcome ℕ) (q : Refusal) → heard (andThen (unpointed o) (λ code. askBy (frame.codeOf (drop code s)) settings s (code + 2))) ≡ refused q
+      → silently (andThen o (λ code. done (responding (settings .header) s (heard (commanded settings g h s block enciphered code))))) .number ≡ numberOf q
+  by-frame (done code) q e =
+      let f = heard-refused (askBy (frame.codeOf (drop code s)) settings s (code + 2)) q e in
+      rw (by-code (frame.codeOf (drop code s)) (code + 2) (f .0) (f .1)) (ap numberOf (f .2))
+  by-frame (refused p) q e = ap numberOf (refusal-of e)
 
 pub answer-reads-the-fields : AnswerReadsTheFields
-unfolding asked answered
+unfolding asking answered
 answer-reads-the-fields settings g h s block enciphered room room′ q k k′ e =
-    rw (le-leb 65 room′ k′) (by-frame settings g h s block enciphered q (framed (settings .header) s) (rw (le-leb 8 room k) at e))
+    rw (le-leb 65 room′ k′) (by-frame settings g h s block enciphered (framed (settings .header) s) q (rw (le-leb 8 room k) at e))

@@ -1,7 +1,7 @@
 -- For what the fields of a command are refused: reader by reader, then stage by stage.
 -- Assumes nothing.
 use Prim.Native.Nat.{ℕ, _+_, _-_, _*_}
-use mathlib.Core.Path.{_≡_, refl}
+use mathlib.Core.Path.{_≡_, refl, sym, subst}
 use mathlib.Core.List.{List, [], _∷_}
 use mathlib.Core.Bool.{Bool, true, false, _&&_, cond}
 use lib.ListN.{length, getD, take, drop}
@@ -10,7 +10,7 @@ use Rattle.nibbles.specs.Nibbles.{within}
 use Rattle.alphabet.specs.Alphabet.{allOf, begins, valueOf}
 use Rattle.alphabet.specs.declared.Class.{Class}
 use Rattle.alphabet.specs.declared.Class.the-variants.{Digit, CapitalHex, Printable}
-use Rattle.numbers.specs.Numbers.{Outcome, done, refused, unless, numberOf}
+use Rattle.numbers.specs.Numbers.{Outcome, done, refused, andThen, unless, numberOf}
 use Rattle.numbers.specs.declared.Refusal.{Refusal}
 use Rattle.numbers.specs.declared.Refusal.the-variants.{WeakList03, Field15, Format23, Table25, Key26, Use29, NotHere69}
 use Rattle.formats.specs.Formats.{codeOf, formatOf}
@@ -18,7 +18,8 @@ use Rattle.formats.specs.declared.Code.{Code}
 use Rattle.formats.specs.declared.Code.the-variants.{Built, Known, Unknown}
 use Rattle.validation.specs.Validation.{isValidation}
 use Rattle.validation.specs.Answers.{shapeOf}
-use Rattle.fields.specs.Fields.{Found, Stage, read, faulty, run, number, twoDigits, marked, behind, trailerMark, longestTrailer, atMost, trailer, fielded, onward, outcome}
+use Rattle.fields.specs.Fields.{Found, Stage, read, faulty, run, number, twoDigits, marked, behind, trailerMark, longestTrailer, atMost, trailer, fielded, onward, Ruling, pointing, heard, outcome}
+use Rattle.fields.proofs.Rulings.{heard-pointing}
 use Rattle.fields.specs.declared.Fault.{Fault}
 use Rattle.keys.specs.Keys.{type001, type002, typeFFF, keyType, hexKey, saidLength, blockLength, permits, keyBlock, lettered, key, lmkField, present}
 use Rattle.keys.specs.declared.Letters.{Letters}
@@ -47,6 +48,15 @@ module _ (these : Refusal → Type 0) where
   behind-only : {A : Type 0} (n : ℕ) (o : Found A) → Only these o → Only these (behind n o)
   behind-only n (done r) c = done-only these (r .0, n + r .1)
   behind-only n (refused q) c = refused-only these q (c q refl)
+
+  -- rulings, judgement after judgement
+  pub then-heard : {A B : Type 0} (o : Ruling A) (next : A → Ruling B) → Only these (heard o) → ((a : A) → Only these (heard (next a))) → Only these (heard (andThen o next))
+  then-heard (done a) next c n = n a
+  then-heard (refused f) next c n = refused-only these (f .refusal) (c (f .refusal) refl)
+
+  -- wherever it points
+  pub pointed-only : {A : Type 0} (which at : ℕ) (o : Outcome A) → Only these o → Only these (heard (pointing which at o))
+  pointed-only which at o c = subst (Only these) (sym (heard-pointing which at o)) c
 
   -- a field, and what comes next
   fielded-only : {A B : Type 0} (k at : ℕ) (o : Found A) (next : A → ℕ → Stage B) → Only these o → ((a : A) (past : ℕ) → Only these (outcome (next a past)))

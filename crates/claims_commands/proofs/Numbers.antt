@@ -30,20 +30,22 @@ use Rattle.frame.specs.Frame.{isFramed, codeOf, opening}
 use Rattle.frame.specs.declared.Code.{Code}
 use Rattle.frame.specs.declared.Code.the-variants.{Bk, Other}
 use Rattle.frame.proofs.Laws.{framed-bounds, opening-length}
-use Rattle.fields.specs.Fields.{outcome}
+use Rattle.fields.specs.Fields.{Ruling, ruled, pointing, unpointed, heard}
+use Rattle.fields.proofs.Rulings.{heard-done}
 use Rattle.weak.specs.Weak.{isOn, weakPins}
-use Rattle.keybox.specs.KeyBox.{boxed}
+use Rattle.keybox.specs.KeyBox.{slices, parities, boxed}
+use Rattle.responses.specs.Responses.{Payload, offset, payloadText, answerText, responding}
+use Rattle.responses.proofs.Laws.{Fine}
 use Rattle.stages.specs.Stages.{accountIn, tableIn, validationIn}
-use Rattle.bk.specs.Bk.{bkFields, bkAsk, bkFinish, bkAnswer, bkPayload}
+use Rattle.bk.specs.Bk.{bkFields, bkAsk, bkFinish, bkAnswer}
 use Rattle.bk.specs.declared.Bk as fields
-use Rattle.bk.proofs.Places.{Answered, answer-held}
-use Rattle.commands.specs.Commands.{askBy, answerBy, opened, asked, answered, commanded, responding, silently}
-use Rattle.commands.proofs.Laws.{asked-block}
+use Rattle.commands.specs.Commands.{askBy, answerBy, opened, asking, asked, answered, commanded, silently}
+use Rattle.commands.proofs.Laws.{asked-block, answer-by-sound}
 use Rattle.claims_blocks.specs.Promises.{listed}
 use Rattle.claims_blocks.proofs.Judged.{Only, Fault, done-only, refused-only, test-only, then-only}
 use Rattle.claims_blocks.proofs.Trips.{read-faults}
 use Rattle.claims_commands.specs.Numbers.{askNumbers, answerNumbers, AskCounts, AnswerCounts, AskNumbers, AnswerNumbers, VariableNever81}
-use Rattle.claims_commands.proofs.Fields.{In, fieldNumbers, either-only, fields-give}
+use Rattle.claims_commands.proofs.Fields.{In, fieldNumbers, either-only, then-heard, pointed-only, fields-give}
 
 -- ---- numbers that stand in a list
 
@@ -76,21 +78,23 @@ row-gives account cs =
     (test-only (In askRefusals) Field15 refl (isTemplate cs) (replaced account cs))
 
 -- a command, by its code
-ask-gives : (code : Code) (settings : Settings) (s : List ℕ) (at : ℕ) → Only (In askRefusals) (askBy code settings s at)
+ask-gives : (code : Code) (settings : Settings) (s : List ℕ) (at : ℕ) → Only (In askRefusals) (heard (askBy code settings s at))
 unfolding askBy bkAsk every
 ask-gives Bk settings s at =
-    then-only (In askRefusals) (outcome (bkFields (settings .restricted) s at)) _ (wider fieldNumbers askRefusals _ refl (fields-give (settings .restricted) s at))
-    (λ p. then-only (In askRefusals) (validationRow (accountIn s (p .offsetting)) (validationIn s (p .offsetting))) _ (row-gives (accountIn s (p .offsetting)) (validationIn s (p .offsetting)))
+    then-heard (In askRefusals) (ruled (bkFields (settings .restricted) s at)) _ (wider fieldNumbers askRefusals _ refl (fields-give (settings .restricted) s at))
+    (λ p. then-heard (In askRefusals) (unpointed (validationRow (accountIn s (p .offsetting)) (validationIn s (p .offsetting)))) _
+    (pointed-only (In askRefusals) 0 0 _ (row-gives (accountIn s (p .offsetting)) (validationIn s (p .offsetting))))
     (λ ns. done-only (In askRefusals) (packs ns)))
 ask-gives Other settings s at = refused-only (In askRefusals) Code68 refl
 
 -- the call
 asked-gives : (settings : Settings) (s : List ℕ) (room : ℕ) → Only (In askRefusals) (asked settings s room)
-unfolding asked
+unfolding asking
 asked-gives settings s room =
-    then-only (In askRefusals) (opened 8 room (settings .header) s) _
+    then-heard (In askRefusals) (unpointed (opened 8 room (settings .header) s)) _
+    (pointed-only (In askRefusals) 0 0 _
     (then-only (In askRefusals) (unless Room901 (leb 8 room) room) _ (test-only (In askRefusals) Room901 refl (leb 8 room) room)
-    (λ _. test-only (In askRefusals) Frame902 refl (isFramed (settings .header) s) (settings .header)))
+    (λ _. test-only (In askRefusals) Frame902 refl (isFramed (settings .header) s) (settings .header))))
     (λ code. ask-gives (codeOf (drop code s)) settings s (code + 2))
 
 -- whatever it comes to: eight bytes, or one of the refusals
@@ -105,7 +109,7 @@ ask-told (refused q) c long =
 pub ask-numbers : AskNumbers
 ask-numbers settings s room =
     ask-told (asked settings s room) (asked-gives settings s room)
-    (λ w e. let b = asked-block settings s room w e .1 in ap length (b .2) ∙ sixteen-bytes (b .0) (b .1))
+    (λ w e. let b = asked-block settings s room w (heard-done (asking settings s room) w e) .1 in ap length (b .2) ∙ sixteen-bytes (b .0) (b .1))
 
 -- ---- the answering call, behind the frame
 
@@ -139,13 +143,25 @@ module _ (variable : Bool) where
   These = Framed variable
 
   -- what the key box answered: 15, 10, 11
-  box-gives : (g h : Bool) (block enciphered : List ℕ) → Only These (boxed g h block enciphered)
-  unfolding boxed
-  box-gives g h block enciphered =
+  slices-give : (block enciphered : List ℕ) → Only These (slices block enciphered)
+  unfolding slices
+  slices-give block enciphered =
       then-only These (sized 8 block) _ (test-only These Field15 (among variable Field15 refl) (eqb (length block) 8) (nibs block))
       (λ ns. then-only These (sized 8 enciphered) _ (test-only These Field15 (among variable Field15 refl) (eqb (length enciphered) 8) (nibs enciphered))
-      (λ es. then-only These (unless PinKeyParity10 g es) _ (test-only These PinKeyParity10 (among variable PinKeyParity10 refl) g es)
-      (λ _. test-only These PvkParity11 (among variable PvkParity11 refl) h (ns, es))))
+      (λ es. done-only These (ns, es)))
+
+  parities-give : (g h : Bool) → Only These (parities g h)
+  unfolding parities
+  parities-give g h =
+      then-only These (unless PinKeyParity10 g (tt {0})) _ (test-only These PinKeyParity10 (among variable PinKeyParity10 refl) g (tt {0}))
+      (λ _. test-only These PvkParity11 (among variable PvkParity11 refl) h (tt {0}))
+
+  box-gives : (end : ℕ) (g h : Bool) (block enciphered : List ℕ) → Only These (heard (boxed end g h block enciphered))
+  unfolding boxed
+  box-gives end g h block enciphered =
+      then-heard These (pointing 0 end (slices block enciphered)) _ (pointed-only These 0 end _ (slices-give block enciphered))
+      (λ rows. then-heard These (unpointed (parities g h)) _ (pointed-only These 0 0 _ (parities-give g h))
+      (λ _. done-only These rows))
 
   -- the block: 20, 24
   fault-among : (q : Refusal) → Fault q → These q
@@ -164,8 +180,13 @@ covers-gives true check n = done-only (Framed true) n
 covers-gives false check n = test-only (Framed false) Check81 refl (leb check n) check
 
 -- twelve characters of offset, and at most 33 bytes of trailer
-abbrev Payload : List ℕ → Type 0
-Payload w = (12 ≤ length w) × (length w ≤ 45)
+abbrev Long : List ℕ → Type 0
+Long w = (12 ≤ length w) × (length w ≤ 45)
+
+-- an offset that is brought has twelve characters
+offset-twelve : (o : Outcome (List ℕ)) (p : Payload) → unpointed (andThen o (λ ds. done (offset ds))) ≡ done p → Fine p → length (payloadText p) ≡ 12
+offset-twelve (done ds) p h f = subst (λ (x : Payload). Fine x → length (payloadText x) ≡ 12) (value-of h) (λ k. text-length ds (k .0)) f
+offset-twelve (refused q) p h f = absurd (let z : _≡_ {A = ℕ} 0 1 = cc in omega arith)
 
 module _ (settings : Settings) (g h : Bool) (s block enciphered : List ℕ) where
   abbrev Answer : Refusal → Type 0
@@ -182,43 +203,50 @@ module _ (settings : Settings) (g h : Bool) (s block enciphered : List ℕ) wher
       (λ offset. test-only Answer Weak86 (among (settings .variable) Weak86 refl) (not (isOn (pair .0) (weakPins (p .weak) s))) offset))
 
   -- a command, by its code
-  answer-by-gives : (code : Code) (at : ℕ) → Only Answer (answerBy code settings g h s at block enciphered)
+  answer-by-gives : (code : Code) (at : ℕ) → Only Answer (heard (answerBy code settings g h s at block enciphered))
   unfolding answerBy bkAnswer every
   answer-by-gives Bk at =
-      then-only Answer (outcome (bkFields (settings .restricted) s at)) _ (λ q e. among (settings .variable) q (wider fieldNumbers others _ refl (fields-give (settings .restricted) s at) q e))
-      (λ p. then-only Answer (boxed g h block enciphered) _ (box-gives (settings .variable) g h block enciphered)
-      (λ rows. then-only Answer (bkFinish (settings .variable) s p rows) _ (finish-gives p rows)
-      (λ offset. done-only Answer (offset, p .trailer))))
+      then-heard Answer (ruled (bkFields (settings .restricted) s at)) _ (λ q e. among (settings .variable) q (wider fieldNumbers others _ refl (fields-give (settings .restricted) s at) q e))
+      (λ p. then-heard Answer (boxed (length s) g h block enciphered) _ (box-gives (settings .variable) (length s) g h block enciphered)
+      (λ rows. then-heard Answer (unpointed (andThen (bkFinish (settings .variable) s p rows) (λ ds. done (offset ds)))) _
+      (pointed-only Answer 0 0 _ (then-only Answer (bkFinish (settings .variable) s p rows) _ (finish-gives p rows) (λ ds. done-only Answer (offset ds))))
+      (λ payload. done-only Answer (payload, p .trailer))))
   answer-by-gives Other at = refused-only Answer Code68 (among (settings .variable) Code68 refl)
 
   -- what a command that has a frame is refused for
-  pub commanded-gives : (code : ℕ) → Only Answer (commanded settings g h s block enciphered code)
+  pub commanded-gives : (code : ℕ) → Only Answer (heard (commanded settings g h s block enciphered code))
   commanded-gives code =
-      then-only Answer (answerBy (codeOf (drop code s)) settings g h s (code + 2) block enciphered) _ (answer-by-gives (codeOf (drop code s)) (code + 2))
-      (λ d. done-only Answer (bkPayload s d))
+      then-heard Answer (answerBy (codeOf (drop code s)) settings g h s (code + 2) block enciphered) _ (answer-by-gives (codeOf (drop code s)) (code + 2))
+      (λ d. done-only Answer (answerText s d))
 
-  -- what an answer holds
-  answer-by-held : (code : Code) (at : ℕ) (d : List ℕ × ℕ) → answerBy code settings g h s at block enciphered ≡ done d → Answered s d
-  unfolding answerBy
-  answer-by-held Bk at d e = answer-held settings g h s at block enciphered d e
-  answer-by-held Other at d e = absurd (let z : _≡_ {A = ℕ} 0 1 = cc in omega arith)
+  -- BK brings an offset
+  brought : (c : Code) (at : ℕ) (d : Payload × ℕ) → answerBy c settings g h s at block enciphered ≡ done d → length (payloadText (d .0)) ≡ 12
+  unfolding answerBy bkAnswer
+  brought Bk at d e =
+      let f = then-done (ruled (bkFields (settings .restricted) s at)) _ d e in
+      let k = then-done (boxed (length s) g h block enciphered) _ d (f .2) in
+      let o = then-done (unpointed (andThen (bkFinish (settings .variable) s (f .0) (k .0)) (λ ds. done (offset ds)))) _ d (k .2) in
+      let same : o .0 ≡ d .0 = ap (λ (x : Payload × ℕ). x .0) (value-of (o .2)) in
+      let fine = answer-by-sound Bk settings g h s at block enciphered d e .payload in
+      offset-twelve (bkFinish (settings .variable) s (f .0) (k .0)) (d .0) (o .1 ∙ ap done same) fine
+  brought Other at d e = absurd (let z : _≡_ {A = ℕ} 0 1 = cc in omega arith)
 
-  -- and how long what it answers is: an offset and a trailer
-  commanded-long : (code : ℕ) (w : List ℕ) → commanded settings g h s block enciphered code ≡ done w → Payload w
+  -- how long what it answers is: an offset and a trailer
+  commanded-long : (code : ℕ) (w : List ℕ) → heard (commanded settings g h s block enciphered code) ≡ done w → Long w
   commanded-long code w e =
-      let a = then-done (answerBy (codeOf (drop code s)) settings g h s (code + 2) block enciphered) _ w e in
+      let a = then-done (answerBy (codeOf (drop code s)) settings g h s (code + 2) block enciphered) _ w (heard-done _ w e) in
       let d = a .0 in
-      let held = answer-by-held (codeOf (drop code s)) (code + 2) d (a .1) in
-      let long : length (bkPayload s d) ≡ 12 + (length s - d .1) =
-      length-append (offsetText (d .0)) (drop (d .1) s) ∙ ap₂ (λ (m n : ℕ). m + n) (text-length (d .0) (held .short)) (length-drop (d .1) s) in
+      let held = answer-by-sound (codeOf (drop code s)) settings g h s (code + 2) block enciphered d (a .1) in
+      let twelve = brought (codeOf (drop code s)) (code + 2) d (a .1) in
+      let long : length (answerText s d) ≡ length (payloadText (d .0)) + (length s - d .1) = length-append (payloadText (d .0)) (drop (d .1) s) ∙ ap (λ (n : ℕ). length (payloadText (d .0)) + n) (length-drop (d .1) s) in
       let inside = held .inside in
       let tail = held .tail in
-      subst Payload (value-of (a .2)) (omega arith, omega arith)
+      subst Long (value-of (a .2)) (omega (arith, long, twelve), omega (arith, long, twelve))
 
 -- ---- the answering call
 
 -- the response to a command that has a frame: its numbers, and its counts
-respond-told : (header : ℕ) (s : List ℕ) (variable : Bool) (o : Outcome (List ℕ)) → header + 2 ≤ length s → Only (Framed variable) o → ((w : List ℕ) → o ≡ done w → Payload w)
+respond-told : (header : ℕ) (s : List ℕ) (variable : Bool) (o : Outcome (List ℕ)) → header + 2 ≤ length s → Only (Framed variable) o → ((w : List ℕ) → o ≡ done w → Long w)
     → (listed (responding header s o .number) answerNumbers ≡ true) × AnswerCounts header (responding header s o)
 unfolding every
 respond-told header s variable (done w) inside c long =
@@ -239,14 +267,14 @@ respond-told header s variable (refused q) inside c long =
 module _ (settings : Settings) (g h : Bool) (s block enciphered : List ℕ) (room : ℕ) where
   -- 901, 902, or such a response
   one-of-three : (says : Said ℕ → Type 0) → says (quietly (refused Room901)) → says (quietly (refused Frame902))
-      → (isFramed (settings .header) s ≡ true → says (responding (settings .header) s (commanded settings g h s block enciphered (settings .header))))
+      → (isFramed (settings .header) s ≡ true → says (responding (settings .header) s (heard (commanded settings g h s block enciphered (settings .header)))))
       → says (answered settings g h s block enciphered room)
   unfolding answered
   one-of-three says narrow frameless responds = by-tests (leb 65 room) (isFramed (settings .header) s) refl
     where
       by-tests : (roomy framed : Bool) → isFramed (settings .header) s ≡ framed
           → says (silently (andThen (andThen (unless Room901 roomy room) (λ _. unless Frame902 framed (settings .header)))
-          (λ code. done (responding (settings .header) s (commanded settings g h s block enciphered code)))))
+          (λ code. done (responding (settings .header) s (heard (commanded settings g h s block enciphered code))))))
       by-tests false framed e = narrow
       by-tests true false e = frameless
       by-tests true true e = responds e
@@ -256,14 +284,14 @@ answer-numbers settings g h s block enciphered room =
     one-of-three settings g h s block enciphered room (λ said. (listed (said .number) answerNumbers ≡ true) × AnswerCounts (settings .header) said)
     (refl, (λ _. refl, λ e. absurd (omega arith), λ e. absurd (false≢true (sym e))))
     (refl, (λ _. refl, λ e. absurd (omega arith), λ e. absurd (false≢true (sym e))))
-    (λ e. respond-told (settings .header) s (settings .variable) (commanded settings g h s block enciphered (settings .header)) (framed-bounds (settings .header) s e .2)
+    (λ e. respond-told (settings .header) s (settings .variable) (heard (commanded settings g h s block enciphered (settings .header))) (framed-bounds (settings .header) s e .2)
     (commanded-gives settings g h s block enciphered (settings .header)) (commanded-long settings g h s block enciphered (settings .header)))
 
 pub variable-never-81 : VariableNever81
 unfolding every
 variable-never-81 settings g h s block enciphered room variable =
     one-of-three settings g h s block enciphered room (λ said. said .number ≡ 81 → ⊥) (λ e. omega arith) (λ e. omega arith)
-    (λ _. respond-not (commanded settings g h s block enciphered (settings .header)) (commanded-gives settings g h s block enciphered (settings .header)))
+    (λ _. respond-not (heard (commanded settings g h s block enciphered (settings .header))) (commanded-gives settings g h s block enciphered (settings .header)))
   where
     respond-not : (o : Outcome (List ℕ)) → Only (Framed (settings .variable)) o → responding (settings .header) s o .number ≡ 81 → ⊥
     respond-not (done w) c e = omega arith

@@ -21,15 +21,17 @@ use Rattle.pins.specs.Pins.{accountField, sized}
 use Rattle.blocks.specs.Blocks.{readRow}
 use Rattle.ibm3624.specs.Ibm3624.{naturalOf, covers, offsetOf}
 use Rattle.offsets.specs.Offsets.{pinWithNatural, offsetFor}
-use Rattle.keybox.specs.KeyBox.{boxed}
+use Rattle.keybox.specs.KeyBox.{slices, parities, boxed}
+use Rattle.responses.specs.Responses.{Payload, offset, answerText, responding}
 use Rattle.frame.specs.Frame.{isFramed, codeOf}
 use Rattle.frame.specs.declared.Code.{Code}
 use Rattle.frame.specs.declared.Code.the-variants as code
-use Rattle.fields.specs.Fields.{outcome}
+use Rattle.fields.specs.Fields.{Ruling, ruled, pointing, unpointed, heard, outcome}
+use Rattle.fields.proofs.Rulings.{heard-then, heard-pointing}
 use Rattle.weak.specs.Weak.{isOn, weakPins}
-use Rattle.bk.specs.Bk.{bkFields, bkFinish, bkAnswer, bkPayload}
-use Rattle.bk.proofs.Places.{outcome-read}
-use Rattle.commands.specs.Commands.{answerBy, answered, responding}
+use Rattle.bk.specs.Bk.{bkFields, bkFinish, bkAnswer}
+use Rattle.bk.proofs.Places.{ruled-read}
+use Rattle.commands.specs.Commands.{answerBy, answered}
 use Rattle.commands.proofs.Laws.{answered-901, answered-902, answered-framed}
 use Rattle.claims_blocks.specs.Promises.{listed}
 use Rattle.claims_blocks.proofs.Judged.{Only, Fault, done-only, refused-only, test-only, then-only}
@@ -37,7 +39,7 @@ use Rattle.claims_blocks.proofs.Trips.{read-faults}
 use Rattle.claims_commands.specs.Runs.{pairIn, Reads}
 use Rattle.claims_commands.specs.Claims.{readNumbers, ReadsExactly, ReturnsTellDifferences}
 use Rattle.claims_commands.proofs.Told.{reached}
-use Rattle.claims_commands.proofs.Fields.{In, fieldNumbers, fields-give}
+use Rattle.claims_commands.proofs.Fields.{In, fieldNumbers, then-heard, pointed-only, fields-give}
 use Rattle.claims_commands.proofs.Numbers.{listed-passes}
 use Rattle.claims_commands.proofs.Differences.{offsets-tell-differences}
 
@@ -56,9 +58,21 @@ passes : {A B : Type 0} (o : Outcome A) (next : A → Outcome B) → Only Other 
 passes (done a) next c k = (a, refl, k)
 passes (refused q) next c k = absurd (false≢true (sym (c q refl) ∙ k q refl))
 
+passes-heard : {A B : Type 0} (o : Ruling A) (next : A → Ruling B) → Only Other (heard o) → Known (heard (andThen o next)) → (a : A) × (o ≡ done a) × Known (heard (next a))
+passes-heard (done a) next c k = (a, refl, k)
+passes-heard (refused f) next c k = absurd (false≢true (sym (c (f .refusal) refl) ∙ k (f .refusal) refl))
+
 -- and what comes first is refused for no number but those of the whole
 first : {A B : Type 0} (o : Outcome A) (next : A → Outcome B) → Known (andThen o next) → Known o
 first o next k q e = k q (ap (λ (x : _). andThen x next) e)
+
+first-heard : {A B : Type 0} (o : Ruling A) (next : A → Ruling B) → Known (heard (andThen o next)) → Known (heard o)
+first-heard o next k = first (heard o) (λ a. heard (next a)) (subst Known (heard-then o next) k)
+
+-- so the finish of a command that brings an offset
+offset-known : (o : Outcome (List ℕ)) (mark : ℕ) → Known {A = Payload × ℕ} (heard (andThen (unpointed (andThen o (λ ds. done (offset ds)))) (λ payload. done (payload, mark)))) → Known o
+offset-known o mark k =
+    first o (λ ds. done (offset ds)) (subst Known (heard-pointing 0 0 (andThen o (λ ds. done (offset ds)))) (first-heard (unpointed (andThen o (λ ds. done (offset ds)))) (λ payload. done (payload, mark)) k))
 
 -- what a call says with one of these numbers
 abbrev Read : Said ℕ → Type 0
@@ -79,13 +93,17 @@ fields-other : (restricted : Bool) (s : List ℕ) (at : ℕ) → Only Other (out
 unfolding every
 fields-other restricted s at q e = not-true _ (listed-passes (λ m. not (listed m readNumbers)) (numberOf q) fieldNumbers refl (fields-give restricted s at q e))
 
-box-other : (g h : Bool) (block enciphered : List ℕ) → Only Other (boxed g h block enciphered)
-unfolding boxed
-box-other g h block enciphered =
-    then-only Other (sized 8 block) _ (test-only Other Field15 refl (eqb (length block) 8) (nibs block))
+box-other : (end : ℕ) (g h : Bool) (block enciphered : List ℕ) → Only Other (heard (boxed end g h block enciphered))
+unfolding boxed slices parities
+box-other end g h block enciphered =
+    then-heard Other (pointing 0 end (slices block enciphered)) _
+    (pointed-only Other 0 end _ (then-only Other (sized 8 block) _ (test-only Other Field15 refl (eqb (length block) 8) (nibs block))
     (λ ns. then-only Other (sized 8 enciphered) _ (test-only Other Field15 refl (eqb (length enciphered) 8) (nibs enciphered))
-    (λ es. then-only Other (unless PinKeyParity10 g es) _ (test-only Other PinKeyParity10 refl g es)
-    (λ _. test-only Other PvkParity11 refl h (ns, es))))
+    (λ es. done-only Other (ns, es)))))
+    (λ rows. then-heard Other (unpointed (parities g h)) _
+    (pointed-only Other 0 0 _ (then-only Other (unless PinKeyParity10 g (tt {0})) _ (test-only Other PinKeyParity10 refl g (tt {0}))
+    (λ _. test-only Other PvkParity11 refl h (tt {0}))))
+    (λ _. done-only Other rows))
 
 pair-other : (f : Format) (ts : List ℕ) (g : List ℕ × List ℕ × List ℕ) → Only Other (pinWithNatural f ts g)
 unfolding pinWithNatural
@@ -105,13 +123,13 @@ module _ (settings : Settings) (g h : Bool) (room : ℕ) (s block enciphered : L
 
   -- behind room, frame and code
   bk-reads : 65 ≤ room → isFramed (settings .header) s ≡ true → codeOf (drop (settings .header) s) ≡ code.Bk
-      → Known (bkAnswer settings g h s (settings .header + 2) block enciphered) → Reads settings g h room s block enciphered
+      → Known (heard (bkAnswer settings g h s (settings .header + 2) block enciphered)) → Reads settings g h room s block enciphered
   unfolding bkAnswer bkFinish
   bk-reads roomy framed coded k =
-      let f = passes (outcome (bkFields (settings .restricted) s (settings .header + 2))) _ (fields-other (settings .restricted) s (settings .header + 2)) k in
-      let b = passes (boxed g h block enciphered) _ (box-other g h block enciphered) (f .2) in
-      let n = passes (pairIn s (f .0) (b .0)) _ (pair-other _ _ _) (first (bkFinish (settings .variable) s (f .0) (b .0)) _ (b .2)) in
-      let r = outcome-read (bkFields (settings .restricted) s (settings .header + 2)) (f .0) (f .1) in
+      let f = passes-heard (ruled (bkFields (settings .restricted) s (settings .header + 2))) _ (fields-other (settings .restricted) s (settings .header + 2)) k in
+      let b = passes-heard (boxed (length s) g h block enciphered) _ (box-other (length s) g h block enciphered) (f .2) in
+      let n = passes (pairIn s (f .0) (b .0)) _ (pair-other _ _ _) (offset-known (bkFinish (settings .variable) s (f .0) (b .0)) _ (b .2)) in
+      let r = ruled-read (bkFields (settings .restricted) s (settings .header + 2)) (f .0) (f .1) in
       record {
         reaches = record { roomy = roomy; framed = framed; coded = coded; fields = f .0; past = r .0; read = r .1; rows = b .0; boxed = b .1 };
         found = n .0;
@@ -119,7 +137,7 @@ module _ (settings : Settings) (g h : Bool) (room : ℕ) (s block enciphered : L
       }
 
   framed-reads : 65 ≤ room → isFramed (settings .header) s ≡ true → (c : Code) → codeOf (drop (settings .header) s) ≡ c
-      → Known (answerBy c settings g h s (settings .header + 2) block enciphered) → Reads settings g h room s block enciphered
+      → Known (heard (answerBy c settings g h s (settings .header + 2) block enciphered)) → Reads settings g h room s block enciphered
   unfolding answerBy
   framed-reads roomy framed code.Bk coded k = bk-reads roomy framed coded k
   framed-reads roomy framed code.Other coded k = absurd (false≢true (k _ refl))
@@ -132,7 +150,7 @@ module _ (settings : Settings) (g h : Bool) (room : ℕ) (s block enciphered : L
       by-tests true false u v = absurd (false≢true (subst Read (answered-902 settings g h s block enciphered room (leb-true 65 room u) v) e))
       by-tests true true u v =
           let k = known (settings .header) s _ (subst Read (answered-framed settings g h s block enciphered room (leb-true 65 room u) v) e) in
-          framed-reads (leb-true 65 room u) v (codeOf (drop (settings .header) s)) refl (first _ (λ answer. done (bkPayload s answer)) k)
+          framed-reads (leb-true 65 room u) v (codeOf (drop (settings .header) s)) refl (first-heard (answerBy (codeOf (drop (settings .header) s)) settings g h s (settings .header + 2) block enciphered) (λ answer. done (answerText s answer)) k)
 
   -- behind its PIN it is refused for 81 or 86 alone
   covers-known : (variable : Bool) (check n : ℕ) → Known (covers variable check n)

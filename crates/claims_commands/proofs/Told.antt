@@ -18,10 +18,12 @@ use Rattle.frame.specs.Frame.{opening}
 use Rattle.frame.specs.declared.Code.the-variants as code
 use Rattle.stages.specs.declared.Keys.{Keys}
 use Rattle.stages.specs.declared.Sealed.{Sealed}
-use Rattle.bk.specs.Bk.{bkFields, bkFinish, bkAnswer, bkPayload}
+use Rattle.fields.specs.Fields.{unpointed, heard}
+use Rattle.responses.specs.Responses.{offset, answerText, responding}
+use Rattle.bk.specs.Bk.{bkFields, bkFinish, bkAnswer}
 use Rattle.bk.specs.declared.Bk.{Bk}
-use Rattle.bk.proofs.Places.{answer-held}
-use Rattle.commands.specs.Commands.{answerBy, answered, responding}
+use Rattle.bk.proofs.Places.{answer-sound}
+use Rattle.commands.specs.Commands.{answerBy, answered}
 use Rattle.commands.proofs.Laws.{answered-framed}
 use Rattle.claims_offsets.proofs.Numbers.{number-once, never-00}
 use Rattle.claims_alike.proofs.Alike as any
@@ -90,7 +92,7 @@ module _ (settings : Settings) (g h : Bool) (room : ℕ) (s block enciphered : L
 
   -- what the command answers and what stands behind 00, as one step
   behind : (o : Outcome (List ℕ)) (mark : ℕ)
-      → andThen (andThen o (λ offset. done (offset, mark))) (λ answer. done (bkPayload s answer)) ≡ andThen o (λ offset. done (offsetText offset ++ drop mark s))
+      → heard (andThen (andThen (unpointed (andThen o (λ ds. done (offset ds)))) (λ payload. done (payload, mark))) (λ answer. done (answerText s answer))) ≡ andThen o (λ ds. done (offsetText ds ++ drop mark s))
   behind (done ds) mark = refl
   behind (refused q) mark = refl
 
@@ -105,7 +107,7 @@ module _ (settings : Settings) (g h : Bool) (room : ℕ) (s block enciphered : L
   pub finish-digits : (ds : List ℕ) → finish ≡ done ds → Below 10 ds
   unfolding bkAnswer
   finish-digits ds e =
-      answer-held settings g h s (settings .header + 2) block enciphered (ds, r .fields .trailer) (rw (r .read, r .boxed, e)) .digits
+      answer-sound settings g h s (settings .header + 2) block enciphered (offset ds, r .fields .trailer) (rw (r .read, r .boxed, e)) .payload .1
 
 -- ---- two runs
 
@@ -127,5 +129,5 @@ answer-alike settings g h room room′ s t block block′ enciphered enciphered�
     let there = reached settings g h room′ t block′ enciphered′ r′ in
     let fine = finish-digits settings g h room s block enciphered r in
     let fine′ = finish-digits settings g h room′ t block′ enciphered′ r′ in
-    let tell = answers-tell 16 Keys Sealed Bk (List ℕ) (List ℕ × List ℕ) (List ℕ) (bkLayout (settings .restricted)) (bkFinish (settings .variable)) (Below 10) offsetText (λ x. x) text-once code.Bk (boxed g h block enciphered) (boxed g h block′ enciphered′) (settings .header) room room′ s t r r′ alike fine fine′ in
+    let tell = answers-tell 16 Keys Sealed Bk (List ℕ) (List ℕ × List ℕ) (List ℕ) (bkLayout (settings .restricted)) (bkFinish (settings .variable)) (Below 10) offsetText (λ x. x) text-once code.Bk (boxed (length s) g h block enciphered) (boxed (length t) g h block′ enciphered′) (settings .header) room room′ s t r r′ alike fine fine′ in
     (λ e. tell .0 (sym here ∙ e ∙ there), λ e. here ∙ tell .1 e ∙ sym there)

@@ -24,14 +24,15 @@ use Rattle.fields.specs.Fields.{read, run, number, trailer}
 use Rattle.keys.specs.Keys.{keyType, hexKey, lettered, key, lmkField}
 use Rattle.weak.specs.Weak.{noneAt, listed, weakField, entries, isOn}
 use Rattle.weak.specs.declared.Weak.{Weak}
-use Rattle.keybox.specs.KeyBox.{boxed}
+use Rattle.keybox.specs.KeyBox.{slices, parities, boxed}
+use Rattle.responses.specs.Responses.{roomToAnswer}
 use Rattle.validation.specs.Answers.{shapeOf}
 use Rattle.validation.specs.declared.Shape.the-variants.{Template}
 use Rattle.stages.specs.Stages.{keys, formatField, sealed, validationField, offsetting, weak, accountIn, tableIn}
 use Rattle.endings.specs.Endings.{end}
 use Rattle.bk.specs.Bk.{bkFields, bkFinish, bkAnswer}
 use Rattle.bk.specs.declared.Bk.{Bk}
-use Rattle.commands.specs.Commands.{roomToAnswer, answerBy, answered}
+use Rattle.commands.specs.Commands.{answerBy, answered}
 use Rattle.claims_commands.specs.Runs.{Reads}
 use Rattle.claims_commands.specs.Witnesses.{command, Run, runP9, runP10, runOther, runLastFour, bothListed, oneListed, variable, Meets, AssumptionsMet}
 
@@ -81,7 +82,7 @@ module _ (settings : Settings) (m : ℕ) (weak : List ℕ) (p : Bk) where
       (isFramed (settings .header) (sent a) ≡ true)
       × (codeOf (drop (settings .header) (sent a)) ≡ code.Bk)
       × (bkFields (settings .restricted) (sent a) (settings .header + 2) ≡ read p (p .trailer))
-      × (boxed true true (a .block) (a .enciphered) ≡ done (rows a))
+      × (boxed (length (sent a)) true true (a .block) (a .enciphered) ≡ done (rows a))
       × (pinWithNatural (p .sealed .format) (tableIn (sent a) (p .offsetting)) (rows a .0, accountIn (sent a) (p .offsetting), rows a .1) ≡ done pair)
 
   reading : (a : Run) (pair : List ℕ × List ℕ) → Computed a pair → Reads settings true true roomToAnswer (sent a) (a .block) (a .enciphered)
@@ -115,7 +116,7 @@ differ : (pin pin′ : List ℕ) → getD pin 4 0 ≡ 7 → getD pin′ 4 0 ≡ 
 differ pin pin′ h k e = omega (arith, ap (λ (ds : List ℕ). getD ds 4 0) e)
 
 pub assumptions-met : AssumptionsMet
-unfolding nibs xors every leading same allOf begins valueOf formats.codeOf contents readRow differences pinWithNatural isFramed opening run number trailer keyType hexKey lettered key lmkField listed weakField entries isOn keys formatField sealed shapeOf validationField offsetting weak end boxed bkFields bkFinish bkAnswer answerBy answered reading meets
+unfolding nibs xors every leading same allOf begins valueOf formats.codeOf contents readRow differences pinWithNatural isFramed opening run number trailer keyType hexKey lettered key lmkField listed weakField entries isOn keys formatField sealed shapeOf validationField offsetting weak end slices parities boxed bkFields bkFinish bkAnswer answerBy answered reading meets
 assumptions-met = (
   (
     meets usually 4 [] none runP9 runP10 pinP9 pinP10 (refl, refl, refl, refl, refl) (refl, refl, refl, refl, refl) (refl, refl, refl, refl) (differ (pinP9 .0) (pinP10 .0) refl refl),

@@ -13,11 +13,12 @@ use Rattle.settings.specs.declared.Settings.{Settings}
 use Rattle.ibm3624.specs.Ibm3624.{covers, offsetOf}
 use Rattle.frame.specs.Frame.{opening}
 use Rattle.frame.specs.declared.Code.{Code}
-use Rattle.fields.specs.Fields.{read}
+use Rattle.fields.specs.Fields.{read, Ruling}
 use Rattle.weak.specs.Weak.{isOn, weakPins}
 use Rattle.bk.specs.Bk.{bkFields, bkFinish}
 use Rattle.bk.specs.declared.Bk.{Bk}
-use Rattle.commands.specs.Commands.{answered, responding}
+use Rattle.responses.specs.Responses.{responding}
+use Rattle.commands.specs.Commands.{answered}
 use Rattle.claims_blocks.specs.Promises.{listed}
 use Rattle.claims_alike.specs.Alike.{Layout, fields, Outside}
 use Rattle.claims_commands.specs.Runs.{Reached, AlikeBut, Reaches, Reads}
@@ -54,7 +55,7 @@ saying c finish text trail header s a rows = responding header s (andThen (finis
 abbrev pub AnswersTell : Type 1
 AnswersTell = (n : ℕ) (F X A S R B : Type 0) (c : Layout n F X A S) (finish : List ℕ → A → R → Outcome B)
     (Fine : B → Type 0) (text : B → List ℕ) (trail : S → List ℕ) → ((x y : B) → Fine x → Fine y → text x ≡ text y → x ≡ y)
-    → (command : Code) (box box′ : Outcome R) (header room room′ : ℕ) (s t : List ℕ)
+    → (command : Code) (box box′ : Ruling R) (header room room′ : ℕ) (s t : List ℕ)
     (r : Reached command (fields c) box header room s) (r′ : Reached command (fields c) box′ header room′ t)
     → Outside n (c .place (r .fields)) s t
     → ((x : B) → finish s (r .fields) (r .rows) ≡ done x → Fine x) → ((x : B) → finish t (r′ .fields) (r′ .rows) ≡ done x → Fine x)

@@ -10,7 +10,8 @@ use Rattle.numbers.specs.Promise.{Said, Does, quietly}
 use Rattle.numbers.specs.declared.Reply.{Reply}
 use Rattle.settings.specs.Settings.{usually}
 use Rattle.settings.specs.declared.Settings.{Settings}
-use Rattle.commands.specs.Commands.{roomToAsk, roomToAnswer, asked, answered}
+use Rattle.responses.specs.Responses.{roomToAnswer}
+use Rattle.commands.specs.Commands.{roomToAsk, asked, answered}
 use Rattle.claims_blocks.specs.Figures.{usualAccount}
 use Rattle.claims_blocks.specs.Promises.{Only00, Apart}
 use Rattle.claims_offsets.specs.Figures.{blockP2, tableP9, encipheredP9, validationP12}

@@ -3,7 +3,7 @@ use Prim.Native.Nat.{ℕ, _+_, _≤_}
 use mathlib.Core.Path.{_≡_}
 use mathlib.Core.List.{List}
 use mathlib.Core.Bool.{Bool, true}
-use lib.ListN.{drop}
+use lib.ListN.{length, drop}
 use Rattle.numbers.specs.Numbers.{Outcome, done}
 use Rattle.settings.specs.declared.Settings.{Settings}
 use Rattle.frame.specs.Frame.{isFramed, codeOf}
@@ -15,14 +15,14 @@ use Rattle.keybox.specs.KeyBox as keybox
 use Rattle.stages.specs.Stages.{accountIn, tableIn}
 use Rattle.bk.specs.Bk.{bkFields}
 use Rattle.bk.specs.declared.Bk.{Bk}
-use Rattle.commands.specs.Commands.{roomToAnswer}
+use Rattle.responses.specs.Responses.{roomToAnswer}
 use Rattle.claims_alike.specs.Alike.{Outside}
 
 -- ---- of any command
 
 -- a run that is not refused before its block is looked at: there is room, the command has a frame, this code and fields that are read,
 -- and what the key box answered is taken
-pub record Reached {A R : Type 0} (command : Code) (reader : List ℕ → ℕ → field.Stage A) (box : Outcome R) (header room : ℕ) (s : List ℕ) : Type 0 where
+pub record Reached {A R : Type 0} (command : Code) (reader : List ℕ → ℕ → field.Stage A) (box : field.Ruling R) (header room : ℕ) (s : List ℕ) : Type 0 where
   pub roomy : roomToAnswer ≤ room
   pub framed : isFramed header s ≡ true
   pub coded : codeOf (drop header s) ≡ command
@@ -33,7 +33,7 @@ pub record Reached {A R : Type 0} (command : Code) (reader : List ℕ → ℕ �
   pub boxed : box ≡ done rows
 
 -- and not before its PIN is read: what is found with command and rows, a PIN or a PIN with its natural PIN
-pub record Finds {A R P : Type 0} (command : Code) (reader : List ℕ → ℕ → field.Stage A) (box : Outcome R) (pinIn : List ℕ → A → R → Outcome P) (header room : ℕ) (s : List ℕ)
+pub record Finds {A R P : Type 0} (command : Code) (reader : List ℕ → ℕ → field.Stage A) (box : field.Ruling R) (pinIn : List ℕ → A → R → Outcome P) (header room : ℕ) (s : List ℕ)
     : Type 0 where
   pub reaches : Reached command reader box header room s
   pub found : P
@@ -48,7 +48,7 @@ AlikeBut place s t = Outside 16 place s t
 -- both slices have 8 bytes and both parities are good
 abbrev pub Reaches : Settings → Bool → Bool → ℕ → List ℕ → List ℕ → List ℕ → Type 0
 Reaches settings pinKeyGood pvkGood room s block enciphered =
-    Reached code.Bk (bkFields (settings .restricted)) (keybox.boxed pinKeyGood pvkGood block enciphered) (settings .header) room s
+    Reached code.Bk (bkFields (settings .restricted)) (keybox.boxed (length s) pinKeyGood pvkGood block enciphered) (settings .header) room s
 
 -- its PIN and its natural PIN
 abbrev pub pairIn : List ℕ → Bk → List ℕ × List ℕ → Outcome (List ℕ × List ℕ)
@@ -56,4 +56,4 @@ pairIn s p rows = pinWithNatural (p .sealed .format) (tableIn s (p .offsetting))
 
 abbrev pub Reads : Settings → Bool → Bool → ℕ → List ℕ → List ℕ → List ℕ → Type 0
 Reads settings pinKeyGood pvkGood room s block enciphered =
-    Finds code.Bk (bkFields (settings .restricted)) (keybox.boxed pinKeyGood pvkGood block enciphered) pairIn (settings .header) room s
+    Finds code.Bk (bkFields (settings .restricted)) (keybox.boxed (length s) pinKeyGood pvkGood block enciphered) pairIn (settings .header) room s

@@ -10,7 +10,8 @@ use Rattle.numbers.specs.Promise.{Said}
 use Rattle.settings.specs.Settings.{usually, variably}
 use Rattle.settings.specs.declared.Settings.{Settings}
 use Rattle.ibm3624.specs.Ibm3624.{covers, offsetOf}
-use Rattle.commands.specs.Commands.{roomToAnswer, answered}
+use Rattle.responses.specs.Responses.{roomToAnswer}
+use Rattle.commands.specs.Commands.{answered}
 use Rattle.claims_blocks.specs.Figures.{usualAccount}
 use Rattle.claims_offsets.specs.Figures.{blockP2, tableP9, encipheredP9, validationP12}
 use Rattle.claims_commands.specs.Runs.{AlikeBut, Reads}

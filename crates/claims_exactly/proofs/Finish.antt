@@ -17,13 +17,15 @@ use Rattle.pins.specs.Pins.{accountField}
 use Rattle.blocks.specs.Blocks.{readRow}
 use Rattle.ibm3624.specs.Ibm3624.{offsetText, naturalOf, offsetOf}
 use Rattle.offsets.specs.Offsets.{pinWithNatural, offsetFor}
-use Rattle.keybox.specs.KeyBox.{boxed}
+use Rattle.keybox.specs.KeyBox.{slices, parities, boxed}
+use Rattle.fields.specs.Fields.{unpointed, heard}
+use Rattle.responses.specs.Responses.{Payload, offset, answerText, responding}
 use Rattle.frame.specs.Frame.{opening, inTwoDigits}
 use Rattle.fields.specs.declared.Fault.{Fault}
 use Rattle.weak.specs.Weak.{isOn}
 use Rattle.bk.specs.Bk.{bkFinish, bkAnswer}
 use Rattle.bk.specs.declared.Bk as fields
-use Rattle.commands.specs.Commands.{answerBy, responding}
+use Rattle.commands.specs.Commands.{answerBy}
 use Rattle.commands.proofs.Laws.{answered-framed}
 use Rattle.texts.specs.Texts.{trailerText}
 use Rattle.texts_data.specs.DataTexts.{weakPinsOf}
@@ -33,9 +35,9 @@ use Rattle.claims_exactly.specs.BkText.{BkParts, sent}
 use Rattle.claims_exactly.specs.Responses.{accountDigits, finishOf, responseTo, AnswersParts}
 use Rattle.claims_exactly.proofs.Sent.{sent-framed, sent-coded, sent-read, sent-stand, sent-opening}
 
-box-eight : (block enciphered : List ℕ) → length block ≡ 8 → length enciphered ≡ 8 → boxed true true block enciphered ≡ done (nibs block, nibs enciphered)
-unfolding boxed
-box-eight block enciphered b e = rw (eq-eqb (length block) 8 b, eq-eqb (length enciphered) 8 e)
+box-eight : (end : ℕ) (block enciphered : List ℕ) → length block ≡ 8 → length enciphered ≡ 8 → boxed end true true block enciphered ≡ done (nibs block, nibs enciphered)
+unfolding boxed slices parities
+box-eight end block enciphered b e = rw (eq-eqb (length block) 8 b, eq-eqb (length enciphered) 8 e)
 
 -- what a finish is refused for
 data Finished : Outcome (List ℕ) → Type 0 where
@@ -86,14 +88,14 @@ module _ (variable : Bool) (p : BkParts) (block enciphered : List ℕ) where
 -- ---- its response
 
 payload : (s : List ℕ) (mark : ℕ) (trailer : List ℕ) (o : Outcome (List ℕ)) → drop mark s ≡ trailer
-    → andThen {A = List ℕ × ℕ} (andThen o (λ offset. done (offset, mark))) (λ answer. done (offsetText (answer .0) ++ drop (answer .1) s)) ≡ andThen o (λ offset. done (offsetText offset ++ trailer))
-payload s mark trailer (done offset) h = rw h
+    → heard (andThen {A = Payload × ℕ} (andThen (unpointed (andThen o (λ ds. done (offset ds)))) (λ p. done (p, mark))) (λ answer. done (answerText s answer))) ≡ andThen o (λ ds. done (offsetText ds ++ trailer))
+payload s mark trailer (done ds) h = rw h
 payload s mark trailer (refused q) h = refl
 
 -- header, BL, number and what is behind 00
 responds : (setting : ℕ) (s header : List ℕ) (p : BkParts) → ((number : ℕ) → opening setting s number ≡ header ++ (0x42 ∷ 0x4C ∷ inTwoDigits number))
     → (o : Outcome (List ℕ)) → Finished o → responding setting s (andThen o (λ offset. done (offsetText offset ++ trailerText (p .end .trailer)))) ≡ responseTo header p o
-responds setting s header p opens o (made offset) = rw (opens 0, append-assoc header (0x42 ∷ 0x4C ∷ 0x30 ∷ 0x30 ∷ []) (offsetText offset ++ trailerText (p .end .trailer)))
+responds setting s header p opens o (made ds) = rw (opens 0, append-assoc header (0x42 ∷ 0x4C ∷ 0x30 ∷ 0x30 ∷ []) (offsetText ds ++ trailerText (p .end .trailer)))
 responds setting s header p opens o is20 = rw (opens 20)
 responds setting s header p opens o is24 = rw (opens 24)
 responds setting s header p opens o is81 = rw (opens 81)
@@ -106,6 +108,6 @@ answers-parts settings block enciphered room header p b c roomy h g =
     let stand = sent-stand settings header p h g in
     let finish = finishOf (settings .variable) p block enciphered in
     answered-framed settings true true s block enciphered room roomy (sent-framed settings header p h g)
-    ∙ rw (sent-coded settings header p h g, sent-read settings header p h g, box-eight block enciphered b c, stand .inputs .account, stand .inputs .table, stand .weak)
+    ∙ rw (sent-coded settings header p h g, sent-read settings header p h g, box-eight (length s) block enciphered b c, stand .inputs .account, stand .inputs .table, stand .weak)
     (ap (responding (settings .header) s) (payload s _ (trailerText (p .end .trailer)) finish (stand .trailer))
     ∙ responds (settings .header) s header p (sent-opening settings header p h g) finish (finished (settings .variable) p block enciphered))

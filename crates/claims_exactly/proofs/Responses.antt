@@ -25,12 +25,13 @@ use Rattle.frame.specs.Frame.{isFramed, codeOf, opening}
 use Rattle.frame.specs.declared.Code.{Code}
 use Rattle.frame.specs.declared.Code.the-variants.{Bk, Other}
 use Rattle.frame.proofs.Laws.{framed-bounds, opening-length}
-use Rattle.fields.specs.Fields.{faulty, outcome}
+use Rattle.fields.specs.Fields.{faulty, unpointed, heard, outcome}
+use Rattle.responses.specs.Responses.{responding}
 use Rattle.fields.specs.declared.Fault.{Fault}
 use Rattle.weak.specs.Weak.{isOn}
 use Rattle.bk.specs.Bk.{bkFields, bkAsk, bkAnswer}
 use Rattle.bk.specs.declared.Bk as fields
-use Rattle.commands.specs.Commands.{askBy, answerBy, asked, answered, commanded, responding}
+use Rattle.commands.specs.Commands.{askBy, answerBy, asking, asked, answered, commanded}
 use Rattle.commands.proofs.Laws.{answered-902, answered-framed}
 use Rattle.texts_data.specs.DataTexts.{weakPinsOf}
 use Rattle.texts_data.proofs.ValidationData.{row-of-parts}
@@ -51,28 +52,28 @@ use Rattle.claims_exactly.proofs.Held.{field-row, holds-read, read-hold
 -- ---- the asking call
 
 pub asks-parts : AsksParts
-unfolding asked askBy bkAsk
+unfolding asking askBy bkAsk
 asks-parts settings room header p roomy h g =
     let stand = sent-stand settings header p h g .inputs in
     let long : length (accountDigits p) ≡ 12 = length-map (p .inputs .account) valueOf ∙ g .inputs .account .0 in
     rw (le-leb 8 room roomy, sent-framed settings header p h g, sent-coded settings header p h g, sent-read settings header p h g, stand .account, stand .validation, row-of-parts (accountDigits p) (p .inputs .validation) long (g .inputs .validation))
 
 asked-only : (settings : Settings) (s : List ℕ) (room : ℕ) → 8 ≤ room → quietly (asked settings s room) .number ≡ 0 → PapersCommand settings s
-unfolding asked askBy bkAsk
+unfolding asking askBy bkAsk
 asked-only settings s room roomy e = by-frame (isFramed (settings .header) s) refl (rw (le-leb 8 room roomy) at e)
   where
     by-fields : PapersCommand settings s ⊎ ((f : Fault) × (bkFields (settings .restricted) s (settings .header + 2) ≡ faulty f))
-        → quietly (bkAsk settings s (settings .header + 2)) .number ≡ 0 → PapersCommand settings s
+        → quietly (heard (bkAsk settings s (settings .header + 2))) .number ≡ 0 → PapersCommand settings s
     by-fields (inl c) e = c
     by-fields (inr (f, h)) e = absurd (never-00 (f .refusal) (sym (rw h at e)))
 
-    by-code : (c : Code) → isFramed (settings .header) s ≡ true → codeOf (drop (settings .header) s) ≡ c → quietly (askBy c settings s (settings .header + 2)) .number ≡ 0
+    by-code : (c : Code) → isFramed (settings .header) s ≡ true → codeOf (drop (settings .header) s) ≡ c → quietly (heard (askBy c settings s (settings .header + 2))) .number ≡ 0
         → PapersCommand settings s
     by-code Bk framed coded e = by-fields (sent-or-faulty settings s framed coded) e
     by-code Other framed coded e = absurd (omega arith)
 
     by-frame : (b : Bool) → isFramed (settings .header) s ≡ b
-        → quietly (andThen (unless Frame902 b (settings .header)) (λ code. askBy (codeOf (drop code s)) settings s (code + 2))) .number ≡ 0 → PapersCommand settings s
+        → quietly (heard (andThen (unpointed (unless Frame902 b (settings .header))) (λ code. askBy (codeOf (drop code s)) settings s (code + 2)))) .number ≡ 0 → PapersCommand settings s
     by-frame false framed e = absurd (omega arith)
     by-frame true framed e = by-code (codeOf (drop (settings .header) s)) framed refl e
 
@@ -228,7 +229,7 @@ framed-exactly settings g h s block enciphered before after r roomy d = (λ e f.
         let counts = answer-numbers settings g h s block enciphered (length before) .1 in
         let empty = counts .0 (subst (λ (n : ℕ). listed n (901 ∷ 902 ∷ []) ≡ true) (sym (sym (d .number) ∙ e)) refl) in
         let said = answered-framed settings g h s block enciphered (length before) roomy f in
-        let long = response-long (settings .header) s (commanded settings g h s block enciphered (settings .header)) (framed-bounds (settings .header) s f .2) in
+        let long = response-long (settings .header) s (heard (commanded settings g h s block enciphered (settings .header))) (framed-bounds (settings .header) s f .2) in
         omega (arith, long, ap length (sym (ap (λ (x : Said ℕ). x .written) said) ∙ empty))
 
     frameless : (HasFrame (settings .header) s → ⊥) → (b : Bool) → isFramed (settings .header) s ≡ b → r .number ≡ 902

@@ -1,12 +1,19 @@
 -- One answer to every promise of the crates of commands: each function cites the law of its shape.
 -- Assumes nothing.
-use Rattle.claims_functions.specs.Commands.{KeyBoxSettled, FrameSettled, FieldsSettled, KeysSettled, WeakSettled, StagesSettled, EndingsSettled, BkSettled, CommandsSettled}
+use Rattle.claims_functions.specs.Commands.{KeyBoxSettled, ResponsesSettled, FrameSettled, FieldsSettled, KeysSettled, WeakSettled, StagesSettled, EndingsSettled, BkSettled, CommandsSettled}
 use Rattle.claims_functions.proofs.Once.{settled, left, answered}
 
 pub key-box-once : KeyBoxSettled
 key-box-once = record {
-  BoxRead·refusal = λ κs a r r′ ends ends′. settled;
+  BoxRead·fault = λ κs a r r′ ends ends′. settled;
   key-box = λ κs a r r′ ends ends′. settled;
+}
+
+pub responses-once : ResponsesSettled
+responses-once = record {
+  Asked·of = λ κs a r r′ ends ends′. settled;
+  ask = λ κs a r r′ ends ends′. answered 1;
+  respond = λ κs a r r′ ends ends′. answered 3;
 }
 
 pub frame-once : FrameSettled
@@ -21,6 +28,7 @@ pub fields-once : FieldsSettled
 fields-once = record {
   Value·refusal = λ κs a r r′ ends ends′. settled;
   fault-at = λ κs a r r′ ends ends′. settled;
+  unpointed = λ κs a r r′ ends ends′. settled;
   no-fault = λ κs a r r′ ends ends′. settled;
   two-digits = λ κs a r r′ ends ends′. settled;
   Cursor·run = λ κs a r r′ ends ends′. settled;
@@ -67,8 +75,7 @@ endings-once = record {
 
 pub bk-once : BkSettled
 bk-once = record {
-  BkRead·refusal = λ κs a r r′ ends ends′. settled;
-  Finished·refusal = λ κs a r r′ ends ends′. settled;
+  BkRead·fault = λ κs a r r′ ends ends′. settled;
   read = λ κs a r r′ ends ends′. settled;
   ask = λ κs a r r′ ends ends′. settled;
   answer = λ κs a r r′ ends ends′. settled;

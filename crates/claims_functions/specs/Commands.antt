@@ -1,8 +1,9 @@
--- One answer to every promise of the crates of commands: key box, frame, fields, keys, weak lists, stages, endings, BK and the two
+-- One answer to every promise of the crates of commands: frame, fields, key box, responses, keys, weak lists, stages, endings, BK and the two
 -- calls.
 -- Each line is over the contract of the function of its name, as the checker reads it for a caller. No line needs what a function
 -- requires: outside it a contract promises nothing.
 use Rattle.keybox.proofs as KeyBox
+use Rattle.responses.proofs as Responses
 use Rattle.frame.proofs as Frame
 use Rattle.fields.proofs as Fields
 use Rattle.keys.proofs as Keys
@@ -15,8 +16,14 @@ use Rattle.claims_functions.specs.Once.{Settled}
 
 -- every public function of keybox
 pub record KeyBoxSettled : Type 0 where
-  pub BoxRead·refusal : Settled KeyBox.BoxRead.refusal.ended KeyBox.BoxRead.refusal.Reads.Learnt
+  pub BoxRead·fault : Settled KeyBox.BoxRead.fault.ended KeyBox.BoxRead.fault.Reads.Learnt
   pub key-box : Settled KeyBox.key_box.ended KeyBox.key_box.Reads.Learnt
+
+-- every public function of responses
+pub record ResponsesSettled : Type 0 where
+  pub Asked·of : Settled Responses.Asked.of.ended Responses.Asked.of.Reads.Learnt
+  pub ask : Settled Responses.ask.ended Responses.ask.Reads.Learnt
+  pub respond : Settled Responses.respond.ended Responses.respond.Reads.Learnt
 
 -- every public function of frame
 pub record FrameSettled : Type 0 where
@@ -29,6 +36,7 @@ pub record FrameSettled : Type 0 where
 pub record FieldsSettled : Type 0 where
   pub Value·refusal : Settled Fields.Value.refusal.ended Fields.Value.refusal.Reads.Learnt
   pub fault-at : Settled Fields.fault_at.ended Fields.fault_at.Reads.Learnt
+  pub unpointed : Settled Fields.unpointed.ended Fields.unpointed.Reads.Learnt
   pub no-fault : Settled Fields.no_fault.ended Fields.no_fault.Reads.Learnt
   pub two-digits : Settled Fields.two_digits.ended Fields.two_digits.Reads.Learnt
   pub Cursor·run : Settled Fields.Cursor.run.ended Fields.Cursor.run.Reads.Learnt
@@ -70,8 +78,7 @@ pub record EndingsSettled : Type 0 where
 
 -- every public function of bk
 pub record BkSettled : Type 0 where
-  pub BkRead·refusal : Settled Bk.BkRead.refusal.ended Bk.BkRead.refusal.Reads.Learnt
-  pub Finished·refusal : Settled Bk.Finished.refusal.ended Bk.Finished.refusal.Reads.Learnt
+  pub BkRead·fault : Settled Bk.BkRead.fault.ended Bk.BkRead.fault.Reads.Learnt
   pub read : Settled Bk.read.ended Bk.read.Reads.Learnt
   pub ask : Settled Bk.ask.ended Bk.ask.Reads.Learnt
   pub answer : Settled Bk.answer.ended Bk.answer.Reads.Learnt

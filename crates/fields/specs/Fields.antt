@@ -9,7 +9,7 @@ use Rattle.nibbles.specs.Nibbles.{within}
 use Rattle.alphabet.specs.Alphabet.{allOf, begins, valueOf}
 use Rattle.alphabet.specs.declared.Class.{Class}
 use Rattle.alphabet.specs.declared.Class.the-variants.{Digit, Printable}
-use Rattle.numbers.specs.Numbers.{Outcome, done, refused, andThen, unless}
+use Rattle.numbers.specs.Numbers.{Judged, Outcome, done, refused, andThen, unless}
 use Rattle.numbers.specs.declared.Refusal.{Refusal}
 use Rattle.numbers.specs.declared.Refusal.the-variants.{Field15}
 use Rattle.fields.specs.declared.Fault.{Fault}
@@ -84,7 +84,31 @@ abbrev pub onward : {A B : Type 0} → Stage A → (A → ℕ → Stage B) → S
 onward (read a at) next = next a at
 onward (faulty f) next = faulty f
 
--- what the host meets of it: the refusal's number, not the place
+-- ---- behind the fields
+
+-- what a command comes to: a value, or the fault that decides, with its field and its place
+abbrev pub Ruling : Type 0 → Type 0
+Ruling A = Judged Fault A
+
+-- what a stage read, or its fault
+abbrev pub ruled : {A : Type 0} → Stage A → Ruling A
+ruled (read a at) = done a
+ruled (faulty f) = refused f
+
+-- what is judged behind the fields: its refusal is pointed at a field and a place
+abbrev pub pointing : {A : Type 0} → ℕ → ℕ → Outcome A → Ruling A
+pointing which at (done a) = done a
+pointing which at (refused q) = refused (record { refusal = q; field = which; place = at })
+
+-- or at none
+abbrev pub unpointed : {A : Type 0} → Outcome A → Ruling A
+unpointed o = pointing 0 0 o
+
+-- what the host hears of it: the refusal's number, not the field nor the place
+abbrev pub heard : {A : Type 0} → Ruling A → Outcome A
+heard (done a) = done a
+heard (refused f) = refused (f .refusal)
+
+-- so of a stage
 abbrev pub outcome : {A : Type 0} → Stage A → Outcome A
-outcome (read a at) = done a
-outcome (faulty f) = refused (f .refusal)
+outcome stage = heard (ruled stage)

@@ -59,11 +59,18 @@ pub fn fault_at(refusal: Refusal, field: usize, cursor: Cursor) -> Fault
     }
 }
 
+// The fault of what is not a field's, and is pointed at nothing.
+pub fn unpointed(refusal: Refusal) -> Fault
+    ensures { λ r. ⌜ r ≡ record { refusal = refusal; field = 0; place = 0 } ⌝ }
+{
+    fault_at(refusal, 0, Cursor { at: 0 })
+}
+
 // The fault that is given where one is asked for and there is none.
 pub fn no_fault() -> Fault
     ensures { λ r. ⌜ r ≡ noFault ⌝ }
 {
-    fault_at(Refusal::Field15, 0, Cursor { at: 0 })
+    unpointed(Refusal::Field15)
 }
 
 // Whether the n characters from a place on are of a class.

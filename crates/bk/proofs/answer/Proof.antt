@@ -4,9 +4,11 @@ use mathlib.Core.Path.{sym, ap, _∙_}
 use borrow.Author.Needs.{needs}
 use Rattle.nibbles.proofs.Bytes.{bytes-below}
 use Rattle.pins.specs.Answers.{refusalIn}
-use Rattle.keybox.specs.Answers.{boxRefusal}
-use Rattle.bk.specs.Answers.{fieldsRefusal, finishedOf}
-use Rattle.bk.specs.declared.Finished.the-variants.{Bad}
+use Rattle.numbers.specs.declared.Refusal.{Refusal}
+use Rattle.keybox.specs.Answers.{boxFault}
+use Rattle.responses.specs.Answers.{answeredOf}
+use Rattle.responses.specs.declared.Answered.the-variants.{Bad}
+use Rattle.bk.specs.Answers.{fieldsFault}
 use Rattle.bk.proofs.Calls.{found-placed, answer-faulty, answer-unboxed, answer-unfinished, answer-made}
 use Rattle.bk.proofs.answer.Statement.{statement}
 use Rattle.bk.proofs.answer.Tie as tie
@@ -20,14 +22,14 @@ enum-known-reread c = search needs
 enum-told : tie.Need-enum-told
 enum-told c = search needs
 
-refusal-requires : tie.Need-refusal-requires
-refusal-requires c κs = search needs
+fault-requires : tie.Need-fault-requires
+fault-requires c κs = search needs
 
 returns : tie.Need-returns
 returns c =
     let a = c .before .before .before .before .before .before .before .args in
-    ap Bad (c .refusal .ensures ∙ ap fieldsRefusal (c .before .enum-told .given .1))
-    ∙ ap finishedOf (sym (answer-faulty (a .settings) (a .pinparity) (a .pvkparity) (a .command .now) (a .start .at) (a .block .now) (a .enciphered .now)
+    ap Bad (c .fault .ensures ∙ ap fieldsFault (c .before .enum-told .given .1))
+    ∙ ap answeredOf (sym (answer-faulty (a .settings) (a .pinparity) (a .pvkparity) (a .command .now) (a .start .at) (a .block .now) (a .enciphered .now)
     _ (sym (c .before .enum-told .given .1) ∙ c .before .before .before .read .ensures)))
 
 key-box-requires : tie.Need-key-box-requires
@@ -39,15 +41,15 @@ enum-known-answered c = search needs
 enum-told-2 : tie.Need-enum-told-2
 enum-told-2 c = search needs
 
-refusal-requires-2 : tie.Need-refusal-requires-2
-refusal-requires-2 c κs = search needs
+fault-requires-2 : tie.Need-fault-requires-2
+fault-requires-2 c κs = search needs
 
 returns-2 : tie.Need-returns-2
 returns-2 c =
     let got = c .before .before .before .before .before in
     let a = got .before .before .before .before .before .before .args in
-    ap Bad (c .refusal2 .ensures ∙ ap boxRefusal (c .before .enum-told2 .given .1))
-    ∙ ap finishedOf (sym (answer-unboxed (a .settings) (a .pinparity) (a .pvkparity) (a .command .now) (a .start .at) (a .block .now) (a .enciphered .now)
+    ap Bad (c .fault2 .ensures ∙ ap boxFault (c .before .enum-told2 .given .1))
+    ∙ ap answeredOf (sym (answer-unboxed (a .settings) (a .pinparity) (a .pvkparity) (a .command .now) (a .start .at) (a .block .now) (a .enciphered .now)
     _ (sym (got .reread .given .1) ∙ got .before .before .read .ensures)
     _ (sym (c .before .enum-told2 .given .1) ∙ c .before .before .before .key-box .ensures)))
 
@@ -63,20 +65,25 @@ enum-known-finished c = search needs
 enum-told-3 : tie.Need-enum-told-3
 enum-told-3 c = search needs
 
-refusal-requires-3 : tie.Need-refusal-requires-3
-refusal-requires-3 c κs = search needs
+refusal-requires : tie.Need-refusal-requires
+refusal-requires c κs = search needs
+
+unpointed-requires : tie.Need-unpointed-requires
+unpointed-requires c κs = search needs
 
 returns-3 : tie.Need-returns-3
 returns-3 c =
-    let box = c .before .before .before .before .before in
+    let box = c .before .before .before .before .before .before in
     let got = box .before .before .before .before in
     let a = got .before .before .before .before .before .before .args in
-    ap Bad (c .refusal3 .ensures ∙ ap refusalIn (c .before .enum-told3 .given .1))
-    ∙ ap finishedOf (sym (answer-unfinished (a .settings) (a .pinparity) (a .pvkparity) (a .command .now) (a .start .at) (a .block .now) (a .enciphered .now)
+    let told = c .before .before in
+    let refusal = c .before .refusal .ensures ∙ ap refusalIn (told .enum-told3 .given .1) in
+    ap Bad (c .unpointed .ensures ∙ ap (λ (q : Refusal). record { refusal = q; field = 0; place = 0 }) refusal)
+    ∙ ap answeredOf (sym (answer-unfinished (a .settings) (a .pinparity) (a .pvkparity) (a .command .now) (a .start .at) (a .block .now) (a .enciphered .now)
     _ (sym (got .reread .given .1) ∙ got .before .before .read .ensures)
     _ (bytes-below (a .block .now) (got .before .before .before .before .shared-slice-known2 .given)) (bytes-below (a .enciphered .now) (got .before .before .before .shared-slice-known3 .given))
     (sym (box .answered .given .1) ∙ box .before .before .key-box .ensures)
-    _ (sym (c .before .enum-told3 .given .1) ∙ c .before .before .before .finish .ensures)))
+    _ (sym (told .enum-told3 .given .1) ∙ told .before .before .finish .ensures)))
 
 returns-4 : tie.Need-returns-4
 returns-4 c =
@@ -96,16 +103,17 @@ answer-spec =
     read-requires
     enum-known-reread
     enum-told
-    refusal-requires
+    fault-requires
     returns
     key-box-requires
     enum-known-answered
     enum-told-2
-    refusal-requires-2
+    fault-requires-2
     returns-2
     finish-requires
     enum-known-finished
     enum-told-3
-    refusal-requires-3
+    refusal-requires
+    unpointed-requires
     returns-3
     returns-4)

@@ -7,11 +7,11 @@ use lib.ListN.{take, drop}
 use borrow.Author.Needs.{needs}
 use Rattle.nibbles.specs.Nibbles.{row}
 use Rattle.pins.specs.Answers.{rowOf}
-use Rattle.pins.specs.declared.Row.the-variants.{Refused}
-use Rattle.blocks.specs.Answers.{blockOf}
 use Rattle.validation.specs.Validation.{validationRow}
 use Rattle.validation.specs.Answers.{shapeOf, shapeWidth}
-use Rattle.bk.specs.Answers.{fieldsRefusal}
+use Rattle.responses.specs.Answers.{askedRow, askedOf}
+use Rattle.responses.specs.declared.Asked.the-variants.{Bad}
+use Rattle.bk.specs.Answers.{fieldsFault}
 use Rattle.bk.proofs.Calls.{found-placed, ask-faulty, ask-row}
 use Rattle.bk.proofs.ask.Statement.{statement}
 use Rattle.bk.proofs.ask.Tie as tie
@@ -25,14 +25,14 @@ enum-known-fields c = search needs
 enum-told : tie.Need-enum-told
 enum-told c = search needs
 
-refusal-requires : tie.Need-refusal-requires
-refusal-requires c κs = search needs
+fault-requires : tie.Need-fault-requires
+fault-requires c κs = search needs
 
 returns : tie.Need-returns
 returns c =
     let a = c .before .before .before .before .before .args in
-    ap Refused (c .refusal .ensures ∙ ap fieldsRefusal (c .before .enum-told .given .1))
-    ∙ ap blockOf (sym (ask-faulty (a .settings) (a .command .now) (a .start .at) _ (sym (c .before .enum-told .given .1) ∙ c .before .before .before .read .ensures)))
+    ap Bad (c .fault .ensures ∙ ap fieldsFault (c .before .enum-told .given .1))
+    ∙ ap askedOf (sym (ask-faulty (a .settings) (a .command .now) (a .start .at) _ (sym (c .before .enum-told .given .1) ∙ c .before .before .before .read .ensures)))
 
 digits-at-requires : tie.Need-digits-at-requires
 digits-at-requires c κs =
@@ -75,15 +75,21 @@ row-requires c κs =
     found-placed (a .settings .restricted) (a .command .now) (a .start .at) _ (sym (got .fields .given .1) ∙ got .before .before .read .ensures) .shape
     ∙ ap (λ (n : ℕ). shapeOf (take n (drop (p .offsetting .validation) (a .command .now)))) (sym (cut (p .offsetting .validation) (shapeWidth (p .offsetting .shape)) _ (c .before .width .ensures)))
 
+of-requires : tie.Need-of-requires
+of-requires c κs = search needs
+
 returns-2 : tie.Need-returns-2
 returns-2 c =
-    let got = c .before .before .before .before .before .before in
+    let got = c .before .before .before .before .before .before .before in
     let a = got .before .before .before .before .args in
     let p = got .fields .given .0 .0 in
-    let account = c .before .before .before .digits-at .result in
-    c .row .ensures
-    ∙ ap (λ (n : ℕ). rowOf (validationRow (row 12 account) (take n (drop (p .offsetting .validation) (a .command .now))))) (cut (p .offsetting .validation) (shapeWidth (p .offsetting .shape)) _ (c .before .before .width .ensures))
-    ∙ ask-row (a .settings) (a .command .now) (a .start .at) p (sym (got .fields .given .1) ∙ got .before .before .read .ensures) account (c .before .before .before .digits-at .ensures)
+    let account = c .before .before .before .before .digits-at .result in
+    c .of .ensures
+    ∙ ap askedRow (
+    c .before .row .ensures
+    ∙ ap (λ (n : ℕ). rowOf (validationRow (row 12 account) (take n (drop (p .offsetting .validation) (a .command .now))))) (cut (p .offsetting .validation) (shapeWidth (p .offsetting .shape)) _ (c .before .before .before .width .ensures))
+    )
+    ∙ ask-row (a .settings) (a .command .now) (a .start .at) p (sym (got .fields .given .1) ∙ got .before .before .read .ensures) account (c .before .before .before .before .digits-at .ensures)
 
 pub ask-spec : {M : Type 1} → statement M
 ask-spec =
@@ -92,7 +98,7 @@ ask-spec =
     read-requires
     enum-known-fields
     enum-told
-    refusal-requires
+    fault-requires
     returns
     digits-at-requires
     width-requires
@@ -101,4 +107,5 @@ ask-spec =
     part-row-start
     part-row-end
     row-requires
+    of-requires
     returns-2)

@@ -8,9 +8,12 @@ use Prim.Native.Nat.{_+_}
 use Rattle.numbers.specs.declared.Refusal.the-variants.{Room901, Frame902}
 use Rattle.frame.specs.Frame.{codeOf}
 use Rattle.frame.proofs.Laws.{framed-bounds}
-use Rattle.commands.specs.Commands.{commanded}
-use Rattle.commands.specs.Answers.{payloadOf, Short}
-use Rattle.commands.proofs.Laws.{short-answer, payload-answer, answered-901, answered-902, answered-framed, does-nothing, does-answered, responds-as}
+use Rattle.commands.specs.Commands.{answerBy, commanded}
+use Rattle.fields.specs.Fields.{heard}
+use Rattle.responses.specs.Answers.{answeredText, Writable}
+use Rattle.responses.specs.declared.Answered.{Answered}
+use Rattle.responses.proofs.Laws.{sound-writable, sound-text, responds-as}
+use Rattle.commands.proofs.Laws.{answer-by-sound, answered-901, answered-902, answered-framed, does-nothing, does-answered}
 use borrow.Author.Needs.{needs}
 use Rattle.commands.proofs.answer.Statement.{statement}
 use Rattle.commands.proofs.answer.Tie as tie
@@ -51,7 +54,9 @@ respond-requires c κs =
     let at = a .settings .header in
     let bounds = framed-bounds at s (sym (c .before .before .before .is-framed .ensures) ∙ not-false (c .before .before .before .is-framed .result) (c .before .before .if2 .left)) in (
       record { framed = bounds .0; coded = bounds .2; roomy = omega arith },
-      subst (Short s) (sym (c .before .answer-by .ensures)) (short-answer (codeOf (drop at s)) (a .settings) (a .pinparity) (a .pvkparity) s (at + 2) (a .block .now) (a .enciphered .now)),
+      subst (Writable s) (sym (c .before .answer-by .ensures))
+          (sound-writable s (answerBy (codeOf (drop at s)) (a .settings) (a .pinparity) (a .pvkparity) s (at + 2) (a .block .now) (a .enciphered .now))
+          (answer-by-sound (codeOf (drop at s)) (a .settings) (a .pinparity) (a .pvkparity) s (at + 2) (a .block .now) (a .enciphered .now))),
     )
 
 same-length : tie.Need-same-length
@@ -64,10 +69,12 @@ returns-3 c =
     let at = a .settings .header in
     let room = length (a .out .now) in
     let framed = sym (c .before .before .before .before .before .before .is-framed .ensures) ∙ not-false (c .before .before .before .before .before .before .is-framed .result) (c .before .before .before .before .before .if2 .left) in
-    let payload = ap (payloadOf s) (c .before .before .before .before .answer-by .ensures) ∙ payload-answer (codeOf (drop at s)) (a .settings) (a .pinparity) (a .pvkparity) s (at + 2) (a .block .now) (a .enciphered .now) in
-    does-answered (a .settings) (a .pinparity) (a .pvkparity) s (a .block .now) (a .enciphered .now) room (commanded (a .settings) (a .pinparity) (a .pvkparity) s (a .block .now) (a .enciphered .now) at) (a .out .now) _ _
+    let text = ap (λ (x : Answered). heard (answeredText s x)) (c .before .before .before .before .answer-by .ensures)
+    ∙ ap heard (sound-text s (answerBy (codeOf (drop at s)) (a .settings) (a .pinparity) (a .pvkparity) s (at + 2) (a .block .now) (a .enciphered .now))
+    (answer-by-sound (codeOf (drop at s)) (a .settings) (a .pinparity) (a .pvkparity) s (at + 2) (a .block .now) (a .enciphered .now))) in
+    does-answered (a .settings) (a .pinparity) (a .pvkparity) s (a .block .now) (a .enciphered .now) room (heard (commanded (a .settings) (a .pinparity) (a .pvkparity) s (a .block .now) (a .enciphered .now) at)) (a .out .now) _ _
     (answered-framed (a .settings) (a .pinparity) (a .pvkparity) s (a .block .now) (a .enciphered .now) room (c .before .before .before .before .before .before .before .if1 .left) framed)
-    (responds-as at s (a .out .now) _ _ _ _ payload (c .before .before .respond .ensures))
+    (responds-as at s (a .out .now) _ _ _ _ text (c .before .before .respond .ensures))
 
 pub answer-spec : {M : Type 1} → statement M
 answer-spec =

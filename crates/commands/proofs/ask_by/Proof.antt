@@ -1,6 +1,7 @@
 -- `commands::ask_by` meets its contract.
 -- Assumes nothing.
-use mathlib.Core.Path.{sym, _∙_}
+use mathlib.Core.Path.{sym, ap, _∙_}
+use Rattle.responses.specs.declared.Asked.the-variants.{Bad}
 use Rattle.commands.specs.Commands.{askBy}
 use borrow.Author.Needs.{needs}
 use Rattle.commands.proofs.ask_by.Statement.{statement}
@@ -21,14 +22,17 @@ ask-requires c κs = search needs
 enum-told-2 : tie.Need-enum-told-2
 enum-told-2 c = search needs
 
+unpointed-requires : tie.Need-unpointed-requires
+unpointed-requires c κs = search needs
+
 returns : tie.Need-returns
 unfolding askBy
 returns c = rw (sym (c .before .before .before .at .ensures) ∙ c .before .enum-told .given .1) (c .ask .ensures)
 
 returns-2 : tie.Need-returns-2
 unfolding askBy
-returns-2 c = rw (sym (c .before .before .at .ensures) ∙ c .enum-told2 .given .1)
+returns-2 c = ap Bad (c .unpointed .ensures) ∙ rw (sym (c .before .before .before .at .ensures) ∙ c .before .enum-told2 .given .1)
 
 pub ask-by-spec : {M : Type 1} → statement M
 ask-by-spec =
-    tie.close (tie.spec at-requires enum-told add-t6 ask-requires enum-told-2 returns returns-2)
+    tie.close (tie.spec at-requires enum-told add-t6 ask-requires enum-told-2 unpointed-requires returns returns-2)

@@ -1,90 +1,71 @@
 -- `keybox::key_box` meets its contract.
 -- Assumes nothing.
-use Prim.Native.Nat.{ℕ}
-use mathlib.Core.Path.{sym, ap₂, _∙_}
-use borrow.Author.Tests.{not-true, not-false}
-use lib.ListN.{length}
-use lib.Dec.{eqb}
-use Rattle.nibbles.specs.Nibbles.{nibs}
-use Rattle.numbers.proofs.Laws.{failed}
-use Rattle.numbers.specs.declared.Refusal.the-variants.{Field15}
-use Rattle.pins.specs.Pins.{sized}
-use Rattle.pins.proofs.Laws.{row-held, row-refused}
-use Rattle.keybox.specs.KeyBox.{boxed}
-use Rattle.keybox.specs.declared.BoxRead.the-variants.{Got}
+use mathlib.Core.Path.{sym, ap, _∙_}
+use Rattle.keybox.specs.Answers.{boxRead}
+use Rattle.keybox.specs.declared.BoxRead.the-variants.{Bad}
+use Rattle.keybox.proofs.Laws.{box-short, box-parity, box-good}
 use borrow.Author.Needs.{needs}
 use Rattle.keybox.proofs.key_box.Statement.{statement}
 use Rattle.keybox.proofs.key_box.Tie as tie
 
-sized-row-requires : tie.Need-sized-row-requires
-sized-row-requires c κs = search needs
+slices-requires : tie.Need-slices-requires
+slices-requires c κs = search needs
 
-enum-known-sized : tie.Need-enum-known-sized
-enum-known-sized c = search needs
+enum-known-sliced : tie.Need-enum-known-sliced
+enum-known-sliced c = search needs
 
 enum-told : tie.Need-enum-told
 enum-told c = search needs
 
+fault-at-requires : tie.Need-fault-at-requires
+fault-at-requires c κs = search needs
+
 returns : tie.Need-returns
-unfolding boxed
 returns c =
-    let a = c .before .before .before .before .before .args in
-    let bs = a .block .now in
-    rw (failed Field15 _ (eqb (length bs) 8) (nibs bs) (row-refused (sized 8 bs) _ (sym (c .enum-told .given .1) ∙ c .before .before .sized-row .ensures)) .1)
+    let told = c .before in
+    let a = told .before .before .before .before .before .args in
+    ap Bad (c .fault-at .ensures)
+    ∙ ap boxRead (sym (box-short (a .end) (a .pinparity) (a .pvkparity) (a .block .now) (a .enciphered .now) (sym (told .enum-told .given .1) ∙ told .before .before .slices .ensures)))
 
-sized-row-requires-2 : tie.Need-sized-row-requires-2
-sized-row-requires-2 c κs = search needs
-
-enum-known-validation : tie.Need-enum-known-validation
-enum-known-validation c = search needs
+parities-requires : tie.Need-parities-requires
+parities-requires c κs = search needs
 
 enum-told-2 : tie.Need-enum-told-2
 enum-told-2 c = search needs
 
+enum-known-parity : tie.Need-enum-known-parity
+enum-known-parity c = search needs
+
+unpointed-requires : tie.Need-unpointed-requires
+unpointed-requires c κs = search needs
+
 returns-2 : tie.Need-returns-2
-unfolding boxed
 returns-2 c =
-    let a = c .before .before .before .before .before .before .before .before .before .args in
-    let es = a .enciphered .now in
-    let first = row-held (sized 8 (a .block .now)) _ (sym (c .before .before .before .before .sized .given .1) ∙ c .before .before .before .before .before .before .sized-row .ensures) in
-    rw (first .1, failed Field15 _ (eqb (length es) 8) (nibs es) (row-refused (sized 8 es) _ (sym (c .enum-told2 .given .1) ∙ c .before .before .sized-row2 .ensures)) .1)
+    let held = c .before .before .before .before in
+    let a = held .before .before .before .before .before .args in
+    box-good (a .end) (a .pinparity) (a .pvkparity) (a .block .now) (a .enciphered .now) _ (sym (held .sliced .given .1) ∙ held .before .before .slices .ensures)
+    (sym (c .enum-told2 .given .1) ∙ c .before .before .parities .ensures)
 
 returns-3 : tie.Need-returns-3
-unfolding boxed
 returns-3 c =
-    let a = c .before .before .before .before .before .before .before .before .before .before .before .args in
-    let first = row-held (sized 8 (a .block .now)) _ (sym (c .before .before .before .before .before .before .sized .given .1) ∙ c .before .before .before .before .before .before .before .before .sized-row .ensures) in
-    let second = row-held (sized 8 (a .enciphered .now)) _ (sym (c .before .before .validation .given .1) ∙ c .before .before .before .before .sized-row2 .ensures) in
-    rw (first .1, second .1, not-true (a .pinparity) (c .if1 .taken))
-
-returns-4 : tie.Need-returns-4
-unfolding boxed
-returns-4 c =
-    let a = c .before .before .before .before .before .before .before .before .before .before .before .before .args in
-    let first = row-held (sized 8 (a .block .now)) _ (sym (c .before .before .before .before .before .before .before .sized .given .1) ∙ c .before .before .before .before .before .before .before .before .before .sized-row .ensures) in
-    let second = row-held (sized 8 (a .enciphered .now)) _ (sym (c .before .before .before .validation .given .1) ∙ c .before .before .before .before .before .sized-row2 .ensures) in
-    rw (first .1, second .1, not-false (a .pinparity) (c .before .if1 .left), not-true (a .pvkparity) (c .if2 .taken))
-
-returns-5 : tie.Need-returns-5
-unfolding boxed
-returns-5 c =
-    let a = c .before .before .before .before .before .before .before .before .before .before .before .before .args in
-    let first = row-held (sized 8 (a .block .now)) _ (sym (c .before .before .before .before .before .before .before .sized .given .1) ∙ c .before .before .before .before .before .before .before .before .before .sized-row .ensures) in
-    let second = row-held (sized 8 (a .enciphered .now)) _ (sym (c .before .before .before .validation .given .1) ∙ c .before .before .before .before .before .sized-row2 .ensures) in
-    rw (first .1, second .1, not-false (a .pinparity) (c .before .if1 .left), not-false (a .pvkparity) (c .if2 .left)) (ap₂ (λ (x y : ℕ). Got (record { block = x; enciphered = y })) (first .2) (second .2))
+    let held = c .before .before .before .before .before .before in
+    let a = held .before .before .before .before .before .args in
+    ap Bad (c .unpointed .ensures)
+    ∙ ap boxRead (sym (box-parity (a .end) (a .pinparity) (a .pvkparity) (a .block .now) (a .enciphered .now) _ (sym (held .sliced .given .1) ∙ held .before .before .slices .ensures)
+    _ (sym (c .before .before .parity .given .1) ∙ c .before .before .before .before .parities .ensures)))
 
 pub key-box-spec : {M : Type 1} → statement M
 key-box-spec =
     tie.close
     (tie.spec
-    sized-row-requires
-    enum-known-sized
+    slices-requires
+    enum-known-sliced
     enum-told
+    fault-at-requires
     returns
-    sized-row-requires-2
-    enum-known-validation
+    parities-requires
     enum-told-2
+    enum-known-parity
+    unpointed-requires
     returns-2
-    returns-3
-    returns-4
-    returns-5)
+    returns-3)
