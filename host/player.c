@@ -195,13 +195,26 @@ void player_write_asked(const struct script_exchange *e)
 		printf("%02u", (unsigned)asked.reply.number);
 }
 
+/* A response may begin with the very word that says that there is none: a
+ * header is the host's. Its first letter is written in hex then. */
+static void write_response(const struct outcome *answered)
+{
+	size_t word = strlen(SCRIPT_NOTHING), len = shown(answered), hidden = 0;
+
+	if (len >= word && memcmp(answered->out, SCRIPT_NOTHING, word) == 0)
+		hidden = 1;
+	if (hidden > 0)
+		printf("\\x%02X", answered->out[0]);
+	text_show(stdout, answered->out + hidden, len - hidden);
+}
+
 void player_write_answered(const struct script_exchange *e)
 {
 	struct outcome answered;
 
 	answer(e, &answered);
 	if (answered.reply.written > 0)
-		text_show(stdout, answered.out, shown(&answered));
+		write_response(&answered);
 	else
-		printf("nothing %02u", (unsigned)answered.reply.number);
+		printf(SCRIPT_NOTHING "%02u", (unsigned)answered.reply.number);
 }

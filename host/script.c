@@ -214,17 +214,17 @@ static bool number_within(const qg_settings *settings, struct script_expected *a
 
 static const char *take_response(struct script *script, const char *rest)
 {
-	static const char nothing[] = "nothing ";
+	size_t word = strlen(SCRIPT_NOTHING);
 	struct script_expected *answers = &script->now.answers;
 	struct text_bytes bytes = { answers->bytes, 0, SCRIPT_ROOM };
 
 	answers->given = true;
 	if (is_open(rest))
 		return take_open(script);
-	if (strncmp(rest, nothing, sizeof nothing - 1) == 0)
-		return read_number(rest + sizeof nothing - 1, &answers->number) &&
+	if (strncmp(rest, SCRIPT_NOTHING, word) == 0)
+		return read_number(rest + word, &answers->number) &&
 			(answers->number == 901 || answers->number == 902) ? NULL :
-			"answers: behind nothing stands 901 or 902";
+			"answers: behind nothing stands 901 or 902; a response that begins so is written \\x6Eothing";
 	const char *fault = text_read(rest, &bytes);
 	answers->len = bytes.len;
 	if (fault == NULL && !number_within(&script->now.settings, answers))

@@ -18,7 +18,9 @@
  *   asks HEX              expected of the asking call: the block that it
  *   asks N                writes, or the number of its refusal
  *   answers TEXT          expected of the answering call: the response, or
- *   answers nothing N     the number, 901 or 902, beside which it writes none
+ *   answers nothing N     the number, 901 or 902, beside which it writes none.
+ *                         A response that begins with `nothing ` itself is
+ *                         written \x6Eothing
  *
  * How text and hex are written is said in text.h. An exchange has an `asks`
  * line and ends at its `answers` line. Everything but the name and these two
@@ -37,6 +39,10 @@
 #define SCRIPT_LINE 8192
 #define SCRIPT_NAME 128
 #define SCRIPT_ROOM 128
+
+/* What stands in an answers line before the number of a refusal without a
+ * response. */
+#define SCRIPT_NOTHING "nothing "
 
 /* More than the 4,096 bytes that have a frame. */
 #define SCRIPT_COMMAND 8192
