@@ -2,8 +2,9 @@
  * Quillgimlet: the part of a classroom payment HSM between the host's bytes
  * and the response. This header is the manual of its C face.
  *
- * Link with libquillgimlet.a (x86-64). The library keeps no state between
- * calls and allocates nothing; any number of threads may call it at once.
+ * Link with libquillgimlet.a, which is code for x86-64 Linux. The library keeps
+ * no state between calls and allocates nothing; any number of threads may call
+ * it at once.
  *
  *
  * RUNS
@@ -165,6 +166,22 @@ qg_settings qg_usual(void);
  * Neither call leans on the other: each reads and judges the whole command.
  * Key unwrapping and the authentication of key blocks are the key box's.
  *
+ * What is left to the server:
+ *
+ *   - Where qg_ask refuses, there is nothing to ask the key box. The server
+ *     calls qg_answer all the same, with any 8 bytes for either block and any
+ *     parities: it alone writes the response, and it refuses with the same
+ *     number before it looks at what the key box made. (901 of qg_ask is the
+ *     server's own fault; qg_answer judges its own output.)
+ *   - The keys and the PIN block that the key box needs stand in the command,
+ *     in fields 2, 3 and 4. No call hands them out yet: after qg_ask has
+ *     answered 00 the server cuts them out itself, by the table below.
+ *   - The paper has no number for a key box that fails otherwise than by a
+ *     parity, as where a key block does not authenticate or the box is silent.
+ *     The server then has two ways. It lends the block that is lacking with
+ *     length 0, and the response to a command whose fields are in order is 15.
+ *     Or it sends no response. 10 and 11 speak of parity alone.
+ *
  * A command is read from the left. The two length bytes that stand before it
  * on the line are the server's affair and no part of it. "Printable" is 20 to
  * 7E hex; hex letters are capitals.
@@ -175,14 +192,15 @@ qg_settings qg_usual(void);
  *    2   PIN key      for 001 and 002 'U' and 32 hex, or 'T' and 48 hex; for
  *                     FFF 'S' and a key block
  *    3   PVK          the same; 'U' in one and 'T' in the other will do
- *    4   PIN block    16 hex: the block as it came, enciphered. Beyond that
- *                     they are hex no call looks at them.
+ *    4   PIN block    16 characters: the block as it came, enciphered. They
+ *                     must be hex; otherwise they are not looked at
  *    5   format       two digits
  *    6   check        two digits: the check length, 04 to 12
  *    7   account      12 digits
  *    8   table        16 digits: the decimalisation table
  *    9   validation   beginning with 'P': it and 16 hex; else 12 characters,
- *                     eleven hex and exactly one 'N'
+ *                     eleven hex and exactly one 'N', which stands for the
+ *                     last five account digits
  *   10   weak PINs    optional: ';' and a count of two digits; where that is
  *                     not 00, the length of an entry in two digits, 04 to 12,
  *                     and the list, count times length digits
@@ -197,7 +215,7 @@ qg_settings qg_usual(void);
  *    5-6     usage:      P0, 71 or 72 of the PIN key; V1 of the PVK
  *    7       algorithm:  T
  *    8       mode:       B, D or N of the PIN key; C, G or N of the PVK
- *    9-13    not judged, beyond that they are printable
+ *    9-13    must be printable; otherwise they are not judged
  *    14-15   LMK id, 00 to 09
  *    16-     whatever follows to the length
  *
@@ -270,7 +288,7 @@ qg_settings qg_usual(void);
  *
  * On 00 it writes the 8 bytes of the block, and `written` is 8. All later
  * bytes of out keep their values. For any other number it writes nothing, and
- * `written` is 0.
+ * `written` is 0: call qg_answer for the response to a refusal too.
  */
 qg_reply qg_ask(qg_settings settings,
 	const uint8_t *command, size_t command_len,
