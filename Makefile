@@ -1,5 +1,5 @@
 # Short names for the steps of the gate. What each does stands in .ci/step.
-.PHONY: check setup prove archive host bench-compiles vectors compare compare-offsets compare-commands lessons lab example install installed uninstall claims clean-c bench soak header reference fmt clean
+.PHONY: check setup prove archive host bench-compiles vectors compare compare-offsets compare-commands lessons lab example install installed uninstall claims reports clean-c bench soak header reference fmt clean
 
 check:
 	.ci/run
@@ -13,7 +13,7 @@ setup:
 archive header reference bench-compiles: setup
 	.ci/step $@
 
-claims:
+claims reports:
 	.ci/step $@
 
 host example installed: archive
