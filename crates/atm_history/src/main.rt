@@ -1,5 +1,5 @@
-// The ATM history course: one PIN in the formats 03, 34 and 35 of old ATMs. Each block holds the same PIN, becomes the same
-// block of format 01, and gives BK the same offset.
+// The ATM history course: one PIN in format 03, which old ATMs wrote, and in 34 and 35, which are for changing a PIN on a card. Each
+// block holds the same PIN, becomes the same block of format 01, and gives BK the same offset.
 use settings::Settings;
 
 const PIN: [u8; 5] = [3, 4, 5, 6, 7];
