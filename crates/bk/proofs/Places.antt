@@ -29,7 +29,7 @@ use Rattle.fields.proofs.Reading.{onward-read, read-once}
 use Rattle.fields.proofs.Rulings.{pointing-done}
 use Rattle.responses.specs.Responses.{Payload, offset}
 use Rattle.responses.proofs.Laws.{Fine, Sound}
-use Rattle.keys.specs.declared.Use.the-variants.{PinKey, Pvk}
+use Rattle.uses.specs.Uses.{pinKey, pvk}
 use Rattle.weak.specs.Weak.{isOn, weakPins}
 use Rattle.weak.specs.declared.Weak.{Weak}
 use Rattle.stages.specs.Stages.{keys, sealed, offsetting, weak, part, accountIn, tableIn, validationIn}
@@ -70,7 +70,7 @@ laid s ks block inputs pins mark at₆ at₁₀ at₁₁ past e₆ e₁₀ e₁�
 pub placed : (restricted : Bool) (s : List ℕ) (at : ℕ) (p : Bk) (past : ℕ) → bkFields restricted s at ≡ read p past → Placed s p
 unfolding bkFields
 placed restricted s at p past e =
-    let o₁ = onward-read (keys 1 PinKey Pvk s at) _ p past e in
+    let o₁ = onward-read (keys 1 pinKey pvk s at) _ p past e in
     let o₄ = onward-read (sealed 4 restricted s (o₁ .1)) _ p past (o₁ .3) in
     let o₆ = onward-read (offsetting 6 s (o₄ .1)) _ p past (o₄ .3) in
     let o₁₀ = onward-read (weak 10 weakMark s (o₆ .1)) _ p past (o₆ .3) in

@@ -8,7 +8,7 @@ use mathlib.Core.Bool.{Bool}
 use Rattle.fields.specs.Fields.{Stage, read, faulty}
 use Rattle.fields.specs.declared.Cursor.{Cursor}
 use Rattle.fields.specs.declared.Fault.{Fault}
-use Rattle.keys.specs.declared.Use.the-variants.{PinKey, Pvk}
+use Rattle.uses.specs.Uses.{pinKey, pvk}
 use Rattle.weak.specs.declared.Weak.{Weak}
 use Rattle.stages.specs.Stages.{keys, sealed, offsetting, weak}
 use Rattle.stages.specs.Answers.{keysRead, sealedRead, offsettingRead, weakStage}
@@ -43,15 +43,15 @@ fields-bad (faulty g) f e = cc
 
 module _ (restricted : Bool) (s : List ℕ) (at : ℕ) where
   -- the keys are at fault
-  pub no-keys : (f : Fault) → keyed.Bad f ≡ keysRead (keys 1 PinKey Pvk s at) → bkFields restricted s at ≡ faulty f
+  pub no-keys : (f : Fault) → keyed.Bad f ≡ keysRead (keys 1 pinKey pvk s at) → bkFields restricted s at ≡ faulty f
   unfolding bkFields
-  no-keys f e = rw (keys-bad (keys 1 PinKey Pvk s at) f e)
+  no-keys f e = rw (keys-bad (keys 1 pinKey pvk s at) f e)
 
-  module _ (ks : Keys) (c₄ : Cursor) (e₁ : keyed.Got ks c₄ ≡ keysRead (keys 1 PinKey Pvk s at)) where
+  module _ (ks : Keys) (c₄ : Cursor) (e₁ : keyed.Got ks c₄ ≡ keysRead (keys 1 pinKey pvk s at)) where
     -- the block or its format is
     pub no-block : (f : Fault) → blocked.Bad f ≡ sealedRead (sealed 4 restricted s (c₄ .at)) → bkFields restricted s at ≡ faulty f
     unfolding bkFields
-    no-block f e = rw (keys-found (keys 1 PinKey Pvk s at) ks c₄ e₁, sealed-bad (sealed 4 restricted s (c₄ .at)) f e)
+    no-block f e = rw (keys-found (keys 1 pinKey pvk s at) ks c₄ e₁, sealed-bad (sealed 4 restricted s (c₄ .at)) f e)
 
     module _ (block : Sealed) (c₆ : Cursor) (e₄ : blocked.Got block c₆ ≡ sealedRead (sealed 4 restricted s (c₄ .at))) where
       -- what the offset is made with is
@@ -59,7 +59,7 @@ module _ (restricted : Bool) (s : List ℕ) (at : ℕ) where
       unfolding bkFields
       no-data f e =
           rw (
-            keys-found (keys 1 PinKey Pvk s at) ks c₄ e₁,
+            keys-found (keys 1 pinKey pvk s at) ks c₄ e₁,
             sealed-found (sealed 4 restricted s (c₄ .at)) block c₆ e₄,
             offsetting-bad (offsetting 6 s (c₆ .at)) f e,
           )
@@ -70,7 +70,7 @@ module _ (restricted : Bool) (s : List ℕ) (at : ℕ) where
         unfolding bkFields
         no-list f e =
             rw (
-              keys-found (keys 1 PinKey Pvk s at) ks c₄ e₁,
+              keys-found (keys 1 pinKey pvk s at) ks c₄ e₁,
               sealed-found (sealed 4 restricted s (c₄ .at)) block c₆ e₄,
               offsetting-found (offsetting 6 s (c₆ .at)) inputs c₁₀ e₆,
               weak-bad (weak 10 weakMark s (c₁₀ .at)) f e,
@@ -82,7 +82,7 @@ module _ (restricted : Bool) (s : List ℕ) (at : ℕ) where
           unfolding bkFields
           no-end f e =
               rw (
-                keys-found (keys 1 PinKey Pvk s at) ks c₄ e₁,
+                keys-found (keys 1 pinKey pvk s at) ks c₄ e₁,
                 sealed-found (sealed 4 restricted s (c₄ .at)) block c₆ e₄,
                 offsetting-found (offsetting 6 s (c₆ .at)) inputs c₁₀ e₆,
                 weak-found (weak 10 weakMark s (c₁₀ .at)) pins c₁₁ e₁₀,
@@ -96,7 +96,7 @@ module _ (restricted : Bool) (s : List ℕ) (at : ℕ) where
           unfolding bkFields
           all-read mark e =
               rw (
-                keys-found (keys 1 PinKey Pvk s at) ks c₄ e₁,
+                keys-found (keys 1 pinKey pvk s at) ks c₄ e₁,
                 sealed-found (sealed 4 restricted s (c₄ .at)) block c₆ e₄,
                 offsetting-found (offsetting 6 s (c₆ .at)) inputs c₁₀ e₆,
                 weak-found (weak 10 weakMark s (c₁₀ .at)) pins c₁₁ e₁₀,

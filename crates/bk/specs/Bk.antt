@@ -12,7 +12,7 @@ use Rattle.offsets.specs.Offsets.{pinWithNatural, offsetFor}
 use Rattle.keybox.specs.KeyBox.{boxed}
 use Rattle.fields.specs.Fields.{Stage, read, onward, Ruling, ruled, unpointed}
 use Rattle.responses.specs.Responses.{Payload, offset, answering}
-use Rattle.keys.specs.declared.Use.the-variants.{PinKey, Pvk}
+use Rattle.uses.specs.Uses.{pinKey, pvk}
 use Rattle.weak.specs.Weak.{isOn, weakPins}
 use Rattle.stages.specs.Stages.{keys, sealed, offsetting, weak, accountIn, tableIn, validationIn}
 use Rattle.endings.specs.Endings.{end}
@@ -25,7 +25,7 @@ weakMark = 0x3B
 -- the fields behind the command code, from the left
 unfoldable pub bkFields : Bool → List ℕ → ℕ → Stage Bk
 bkFields restricted s at₁ =
-    onward (keys 1 PinKey Pvk s at₁)
+    onward (keys 1 pinKey pvk s at₁)
     (λ ks at₄. onward (sealed 4 restricted s at₄)
     (λ block at₆. onward (offsetting 6 s at₆)
     (λ inputs at₁₀. onward (weak 10 weakMark s at₁₀)

@@ -15,7 +15,6 @@ use fields::Cursor;
 use fields::Fault;
 use keybox::BoxRead;
 use keybox::Boxed;
-use keys::Use;
 use numbers::Refusal;
 use offsets::Comparison;
 use offsets::Rows;
@@ -30,6 +29,7 @@ use stages::OffsettingRead;
 use stages::Sealed;
 use stages::SealedRead;
 use stages::WeakStage;
+use uses::Use;
 use weak::Weak;
 
 // "ours is the semicolon"
@@ -64,7 +64,7 @@ impl BkRead {
 pub fn read(restricted: bool, command: &[u8], start: Cursor) -> BkRead
     ensures { λ r. ⌜ r ≡ bkRead (bkFields restricted (now (command .entry)) (start .at)) ⌝ }
 {
-    let keyed = stages::read_keys(command, start, 1, Use::PinKey, Use::Pvk);
+    let keyed = stages::read_keys(command, start, 1, Use::PIN_KEY, Use::PVK);
     let KeysRead::Got(keys, at_block) = keyed else {
         return BkRead::Bad(keyed.fault());
     };

@@ -4,7 +4,7 @@ use Prim.Native.Nat.{ℕ}
 use mathlib.Core.List.{List}
 use mathlib.Core.Bool.{Bool}
 use Rattle.fields.specs.Fields.{Found, read, field, onward}
-use Rattle.keys.specs.declared.Use.{Use}
+use Rattle.uses.specs.declared.Use.{Use}
 use Rattle.weak.specs.declared.Weak.{Weak}
 use Rattle.stages.specs.Stages.{keys, sealed, offsetting, weak}
 use Rattle.stages.specs.declared.Keys.{Keys}

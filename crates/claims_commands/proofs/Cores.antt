@@ -29,7 +29,8 @@ use Rattle.frame.specs.declared.Code.the-variants.{Bk, Other}
 use Rattle.fields.specs.Fields.{Stage, read, faulty, onward, ruled, unpointed, heard, run, number, trailer}
 use Rattle.fields.specs.declared.Fault.{Fault}
 use Rattle.fields.proofs.Rulings.{heard-refused}
-use Rattle.keys.specs.Keys.{keyType, hexKey, lettered, key, lmkField}
+use Rattle.lmk.specs.Lmk.{lmkField}
+use Rattle.keys.specs.Keys.{keyType, hexKey, lettered, key}
 use Rattle.weak.specs.Weak.{weakField, entries, isOn}
 use Rattle.keybox.specs.KeyBox.{slices, parities, boxed}
 use Rattle.responses.specs.Responses.{responding}
@@ -45,7 +46,7 @@ use Rattle.claims_blocks.specs.Promises.{Only00, Apart}
 use Rattle.claims_offsets.specs.Figures.{blockP2, encipheredP9}
 use Rattle.claims_commands.specs.Cores.{commandOf, otherAccount, encipheredZeros, asks, answers, CommandsNotRefusing, CommandsNotFixed, CommandsNotSilent, PapersExchange, AnswerReadsTheFields}
 use Rattle.fields.proofs.Reading.{onward-read, read-once}
-use Rattle.keys.specs.declared.Use.the-variants.{PinKey, Pvk}
+use Rattle.uses.specs.Uses.{pinKey, pvk}
 use Rattle.stages.specs.declared.Keys.{Keys}
 use Rattle.stages.specs.declared.Sealed.{Sealed}
 use Rattle.stages.specs.declared.Offsetting.{Offsetting}
@@ -139,7 +140,7 @@ not-refused e = let z : _≡_ {A = ℕ} 0 1 = cc in omega arith
 measured : (restricted : Bool) (s : List ℕ) (at : ℕ) (p : bk.Bk) (past : ℕ) → bkFields restricted s at ≡ read p past → (at₆ : ℕ) × (at₁₀ : ℕ) × (offsetting 6 s at₆ ≡ read (p .offsetting) at₁₀)
 unfolding bkFields
 measured restricted s at p past e =
-    let o₁ = onward-read (keys 1 PinKey Pvk s at) _ p past e in
+    let o₁ = onward-read (keys 1 pinKey pvk s at) _ p past e in
     let o₄ = onward-read (sealed 4 restricted s (o₁ .1)) _ p past (o₁ .3) in
     let o₆ = onward-read (offsetting 6 s (o₄ .1)) _ p past (o₄ .3) in
     (o₄ .1, o₆ .1, from (o₁ .0) (o₄ .0) (o₆ .0) (o₄ .1) (o₆ .1) (o₆ .2) (o₆ .3))

@@ -7,7 +7,7 @@ use mathlib.Core.Bool.{Bool, true, false, _&&_, cond}
 use lib.ListN.{length, getD, take, drop}
 use lib.Dec.{leb, eqb}
 use Rattle.nibbles.specs.Nibbles.{within}
-use Rattle.alphabet.specs.Alphabet.{allOf, begins, valueOf}
+use Rattle.alphabet.specs.Alphabet.{admits, allOf, begins, valueOf}
 use Rattle.alphabet.specs.declared.Class.{Class}
 use Rattle.alphabet.specs.declared.Class.the-variants.{Digit, CapitalHex, Printable}
 use Rattle.numbers.specs.Numbers.{Outcome, done, refused, andThen, unless, numberOf}
@@ -21,12 +21,14 @@ use Rattle.validation.specs.Answers.{shapeOf}
 use Rattle.fields.specs.Fields.{Found, Stage, read, faulty, run, number, twoDigits, marked, behind, trailerMark, longestTrailer, atMost, trailer, fielded, onward, Ruling, pointing, heard, outcome}
 use Rattle.fields.proofs.Rulings.{heard-pointing}
 use Rattle.fields.specs.declared.Fault.{Fault}
-use Rattle.keys.specs.Keys.{type001, type002, typeFFF, keyType, hexKey, saidLength, blockLength, permits, keyBlock, lettered, key, lmkField, present}
+use Rattle.lmk.specs.Lmk.{lmkField, present}
+use Rattle.lmk.specs.declared.Lmk.{Lmk}
+use Rattle.uses.specs.Uses.{pinKey, pvk, permits}
+use Rattle.uses.specs.declared.Use.{Use}
+use Rattle.keylengths.specs.KeyLengths.{saidLength, blockLength}
+use Rattle.keyblocks.specs.KeyBlocks.{keyBlock}
+use Rattle.keys.specs.Keys.{type001, type002, typeFFF, onlyUOrT, onlyS, keyType, hexKey, letterU, letterT, letterS, admitted, lettered, key}
 use Rattle.keys.specs.declared.Letters.{Letters}
-use Rattle.keys.specs.declared.Letters.the-variants.{UOrT, S}
-use Rattle.keys.specs.declared.Use.{Use}
-use Rattle.keys.specs.declared.Use.the-variants.{PinKey, Pvk}
-use Rattle.keys.specs.declared.Lmk.{Lmk}
 use Rattle.weak.specs.Weak.{noneAt, weakField}
 use Rattle.weak.specs.Weak as list
 use Rattle.stages.specs.Stages.{allows, formatField, validationWidth, validationField, keys, sealed, offsetting, weak}
@@ -101,9 +103,9 @@ OfFields = In fieldNumbers
 type-gives : (cs : List ℕ) → Only OfFields (keyType cs)
 unfolding keyType
 type-gives cs =
-    either-only OfFields (begins type001 cs) _ _ (done-only OfFields (UOrT, 3))
-    (either-only OfFields (begins type002 cs) _ _ (done-only OfFields (UOrT, 3))
-    (either-only OfFields (begins typeFFF cs) _ _ (done-only OfFields (S, 3)) (refused-only OfFields Field15 refl)))
+    either-only OfFields (begins type001 cs) _ _ (done-only OfFields (onlyUOrT, 3))
+    (either-only OfFields (begins type002 cs) _ _ (done-only OfFields (onlyUOrT, 3))
+    (either-only OfFields (begins typeFFF cs) _ _ (done-only OfFields (onlyS, 3)) (refused-only OfFields Field15 refl)))
 
 -- 15
 hex-gives : (n : ℕ) (cs : List ℕ) → Only OfFields (hexKey n cs)
@@ -128,12 +130,19 @@ block-gives for cs =
     (λ id. done-only OfFields _))))
 
 -- the same, and 26 for another letter
+admitted-gives : (b : Bool) (o : Found Lmk) → Only OfFields o → Only OfFields (admitted b o)
+admitted-gives b o c = either-only OfFields b _ _ c (refused-only OfFields Key26 refl)
+
+behind-gives : (b : Bool) (o : Found Lmk) → Only OfFields o → Only OfFields (behind 1 (admitted b o))
+behind-gives b o c = behind-only OfFields 1 (admitted b o) (admitted-gives b o c)
+
 lettered-gives : (letters : Letters) (for : Use) (cs : List ℕ) → Only OfFields (lettered letters for cs)
 unfolding lettered
-lettered-gives UOrT for cs =
-    either-only OfFields (marked 0x55 cs) _ _ (behind-only OfFields 1 (hexKey 32 (drop 1 cs)) (hex-gives 32 (drop 1 cs)))
-    (either-only OfFields (marked 0x54 cs) _ _ (behind-only OfFields 1 (hexKey 48 (drop 1 cs)) (hex-gives 48 (drop 1 cs))) (refused-only OfFields Key26 refl))
-lettered-gives S for cs = either-only OfFields (marked 0x53 cs) _ _ (behind-only OfFields 1 (keyBlock for (drop 1 cs)) (block-gives for (drop 1 cs))) (refused-only OfFields Key26 refl)
+lettered-gives letters for cs =
+    either-only OfFields (marked letterU cs) _ _ (behind-gives (letters .double) _ (hex-gives 32 (drop 1 cs)))
+    (either-only OfFields (marked letterT cs) _ _ (behind-gives (letters .triple) _ (hex-gives 48 (drop 1 cs)))
+    (either-only OfFields (marked letterS cs) _ _ (behind-gives (letters .block) _ (block-gives for (drop 1 cs)))
+    (admitted-gives (letters .bare && admits CapitalHex (getD cs 0 0)) _ (hex-gives 32 cs))))
 
 key-gives : (letters : Letters) (for : Use) (cs : List ℕ) → Only OfFields (key letters for cs)
 unfolding key
@@ -249,7 +258,7 @@ end-gives first ks s at =
 pub fields-give : (restricted : Bool) (s : List ℕ) (at : ℕ) → Only OfFields (outcome (bkFields restricted s at))
 unfolding bkFields
 fields-give restricted s at =
-    onward-only OfFields (keys 1 PinKey Pvk s at) _ (keys-give 1 PinKey Pvk s at)
+    onward-only OfFields (keys 1 pinKey pvk s at) _ (keys-give 1 pinKey pvk s at)
     (λ ks at₄. onward-only OfFields (sealed 4 restricted s at₄) _ (sealed-gives 4 restricted s at₄)
     (λ block at₆. onward-only OfFields (offsetting 6 s at₆) _ (offsetting-gives 6 s at₆)
     (λ inputs at₁₀. onward-only OfFields (weak 10 weakMark s at₁₀) _ (listing-gives 10 weakMark s at₁₀)

@@ -7,7 +7,7 @@ use mathlib.Core.Path.{refl}
 use mathlib.Core.List.{List}
 use mathlib.Core.Bool.{Bool}
 use lib.ListN.{drop}
-use Rattle.keys.specs.declared.Use.the-variants.{PinKey, Pvk}
+use Rattle.uses.specs.Uses.{pinKey, pvk}
 use Rattle.stages.specs.declared.Keys.{Keys}
 use Rattle.stages.specs.declared.Sealed.{Sealed}
 use Rattle.bk.specs.Bk.{weakMark, bkFields}
@@ -27,7 +27,7 @@ bkTail ks block =
 
 abbrev pub bkLayout : Bool → Layout 16 Keys Sealed Bk (List ℕ)
 bkLayout restricted = record {
-  front = keysPiece 1 PinKey Pvk;
+  front = keysPiece 1 pinKey pvk;
   block = sealedPiece 4 restricted;
   tail = bkTail;
   whatever = λ at p rest rest′ g. g;

@@ -21,7 +21,8 @@ use Rattle.offsets.specs.Offsets.{pinWithNatural}
 use Rattle.frame.specs.Frame.{isFramed, codeOf, opening}
 use Rattle.frame.specs.declared.Code.the-variants as code
 use Rattle.fields.specs.Fields.{read, run, number, trailer}
-use Rattle.keys.specs.Keys.{keyType, hexKey, lettered, key, lmkField}
+use Rattle.lmk.specs.Lmk.{lmkField}
+use Rattle.keys.specs.Keys.{keyType, hexKey, lettered, key}
 use Rattle.weak.specs.Weak.{noneAt, listed, weakField, entries, isOn}
 use Rattle.weak.specs.declared.Weak.{Weak}
 use Rattle.keybox.specs.KeyBox.{slices, parities, boxed}

@@ -9,10 +9,10 @@ use mathlib.Core.Bool.{Bool}
 use lib.ListN.{length, length-append}
 use Rattle.formats.specs.declared.Format.{Format}
 use Rattle.formats.specs.declared.Format.the-variants.{F01, F03, F05, F34, F35, F47}
-use Rattle.keys.specs.declared.Use.{Use}
-use Rattle.keys.specs.declared.Use.the-variants.{PinKey, Pvk}
+use Rattle.uses.specs.Uses.{pinKey, pvk}
+use Rattle.uses.specs.declared.Use.{Use}
 use Rattle.texts.specs.Texts.{asTwoDigits, Optional, absent, present, WherePresent, optionalText, IsTrailer, trailerText}
-use Rattle.texts_keys.specs.KeyTexts.{KeyType, is001, is002, isFFF, typeText, Key, double, triple, block, keyText, IsKey, idText}
+use Rattle.texts_keys.specs.KeyTexts.{KeyType, is001, is002, isFFF, typeText, Key, bare, double, triple, block, keyText, IsKey, idText}
 use Rattle.texts_keys.specs.KeyWritings.{ruleFor}
 use Rattle.texts_keys.proofs.KeyBlocks.{block-long}
 use Rattle.texts_data.specs.DataTexts.{formatText, Validation, withN, withP, validationText, IsValidation, WeakList, noPins, pins, weakText, IsWeakList, markOfWeakList}
@@ -26,6 +26,7 @@ type-size is002 = refl
 type-size isFFF = refl
 
 key-size : (for : Use) (k : Key) → IsKey (ruleFor for) k → length (keyText k) ≤ 513
+key-size for (bare cs) g = omega (arith, g .0)
 key-size for (double cs) g = omega (arith, g .0)
 key-size for (triple cs) g = omega (arith, g .0)
 key-size for (block k) g = omega (arith, block-long for k g, g .size)
@@ -62,7 +63,7 @@ bk-size restricted p g =
     let first = keyText (p .keys .first) in
     let second = keyText (p .keys .second) in
     let keys : length (keysText (p .keys)) ≤ 1029
-    = omega (arith, length-append (typeText (p .keys .type)) (first ++ second), length-append first second, type-size (p .keys .type), key-size PinKey (p .keys .first) (g .keys .first), key-size Pvk (p .keys .second) (g .keys .second)) in
+    = omega (arith, length-append (typeText (p .keys .type)) (first ++ second), length-append first second, type-size (p .keys .type), key-size pinKey (p .keys .first) (g .keys .first), key-size pvk (p .keys .second) (g .keys .second)) in
     let sealed : length (sealedText (p .sealed)) ≡ 18 = length-append (p .sealed .block) (formatText (p .sealed .format)) ∙ omega (arith, g .sealed .block .0, format-size (p .sealed .format)) in
     let inputs : length (inputsText (p .inputs)) ≤ 47
     = omega (arith, length-append (p .inputs .account) (p .inputs .table ++ data-text), length-append (p .inputs .table) data-text, g .inputs .account .0, g .inputs .table .0, data-size (p .inputs .validation) (g .inputs .validation)) in

@@ -1,6 +1,6 @@
 -- One answer to every promise of the crates of commands: each function cites the law of its shape.
 -- Assumes nothing.
-use Rattle.claims_functions.specs.Commands.{KeyBoxSettled, ResponsesSettled, FrameSettled, FieldsSettled, KeysSettled, WeakSettled, StagesSettled, EndingsSettled, BkSettled, CommandsSettled}
+use Rattle.claims_functions.specs.Commands.{KeyBoxSettled, ResponsesSettled, FrameSettled, FieldsSettled, LmkSettled, UsesSettled, KeyLengthsSettled, KeyBlocksSettled, KeysSettled, WeakSettled, StagesSettled, EndingsSettled, BkSettled, CommandsSettled}
 use Rattle.claims_functions.proofs.Once.{settled, left, answered}
 
 pub key-box-once : KeyBoxSettled
@@ -37,14 +37,27 @@ fields-once = record {
   Cursor·trailer = λ κs a r r′ ends ends′. settled;
 }
 
-pub keys-once : KeysSettled
-keys-once = record {
+pub lmk-once : LmkSettled
+lmk-once = record {
   Keyed·refusal = λ κs a r r′ ends ends′. settled;
   Lmk·is-present = λ κs a r r′ ends ends′. settled;
   Lmk·agrees = λ κs a r r′ ends ends′. settled;
+  lmk-field = λ κs a r r′ ends ends′. settled;
+}
+
+pub uses-once : UsesSettled
+uses-once = record { Use·permits = λ κs a r r′ ends ends′. settled }
+
+pub key-lengths-once : KeyLengthsSettled
+key-lengths-once = record { block-length = λ κs a r r′ ends ends′. settled }
+
+pub key-blocks-once : KeyBlocksSettled
+key-blocks-once = record { key-block = λ κs a r r′ ends ends′. settled }
+
+pub keys-once : KeysSettled
+keys-once = record {
   key-type = λ κs a r r′ ends ends′. settled;
   key-field = λ κs a r r′ ends ends′. settled;
-  lmk-field = λ κs a r r′ ends ends′. settled;
 }
 
 pub weak-once : WeakSettled

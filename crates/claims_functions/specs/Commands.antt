@@ -1,11 +1,15 @@
--- One answer to every promise of the crates of commands: frame, fields, key box, responses, keys, weak lists, stages, endings, BK and the two
--- calls.
+-- One answer to every promise of the crates of commands: key box, responses, frame, fields, LMK ids, uses, key blocks and their lengths, keys,
+-- weak lists, stages, endings, BK and the two calls.
 -- Each line is over the contract of the function of its name, as the checker reads it for a caller. No line needs what a function
 -- requires: outside it a contract promises nothing.
 use Rattle.keybox.proofs as KeyBox
 use Rattle.responses.proofs as Responses
 use Rattle.frame.proofs as Frame
 use Rattle.fields.proofs as Fields
+use Rattle.lmk.proofs as Lmk
+use Rattle.uses.proofs as Uses
+use Rattle.keylengths.proofs as KeyLengths
+use Rattle.keyblocks.proofs as KeyBlocks
 use Rattle.keys.proofs as Keys
 use Rattle.weak.proofs as Weak
 use Rattle.stages.proofs as Stages
@@ -44,14 +48,29 @@ pub record FieldsSettled : Type 0 where
   pub Cursor·mark : Settled Fields.Cursor.mark.ended Fields.Cursor.mark.Reads.Learnt
   pub Cursor·trailer : Settled Fields.Cursor.trailer.ended Fields.Cursor.trailer.Reads.Learnt
 
+-- every public function of lmk
+pub record LmkSettled : Type 0 where
+  pub Keyed·refusal : Settled Lmk.Keyed.refusal.ended Lmk.Keyed.refusal.Reads.Learnt
+  pub Lmk·is-present : Settled Lmk.Lmk.is_present.ended Lmk.Lmk.is_present.Reads.Learnt
+  pub Lmk·agrees : Settled Lmk.Lmk.agrees.ended Lmk.Lmk.agrees.Reads.Learnt
+  pub lmk-field : Settled Lmk.lmk_field.ended Lmk.lmk_field.Reads.Learnt
+
+-- every public function of uses
+pub record UsesSettled : Type 0 where
+  pub Use·permits : Settled Uses.Use.permits.ended Uses.Use.permits.Reads.Learnt
+
+-- every public function of keylengths
+pub record KeyLengthsSettled : Type 0 where
+  pub block-length : Settled KeyLengths.block_length.ended KeyLengths.block_length.Reads.Learnt
+
+-- every public function of keyblocks
+pub record KeyBlocksSettled : Type 0 where
+  pub key-block : Settled KeyBlocks.key_block.ended KeyBlocks.key_block.Reads.Learnt
+
 -- every public function of keys
 pub record KeysSettled : Type 0 where
-  pub Keyed·refusal : Settled Keys.Keyed.refusal.ended Keys.Keyed.refusal.Reads.Learnt
-  pub Lmk·is-present : Settled Keys.Lmk.is_present.ended Keys.Lmk.is_present.Reads.Learnt
-  pub Lmk·agrees : Settled Keys.Lmk.agrees.ended Keys.Lmk.agrees.Reads.Learnt
   pub key-type : Settled Keys.key_type.ended Keys.key_type.Reads.Learnt
   pub key-field : Settled Keys.key_field.ended Keys.key_field.Reads.Learnt
-  pub lmk-field : Settled Keys.lmk_field.ended Keys.lmk_field.Reads.Learnt
 
 -- every public function of weak
 pub record WeakSettled : Type 0 where

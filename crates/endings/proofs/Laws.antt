@@ -12,9 +12,9 @@ use Rattle.numbers.specs.declared.Refusal.the-variants.{Field15}
 use Rattle.fields.specs.Fields.{Stage, read, faulty, trailer}
 use Rattle.fields.specs.declared.Fault.{Fault}
 use Rattle.fields.proofs.Reading.{field-read, read-once, inside-from, trailer-33}
-use Rattle.keys.specs.Keys.{lmkField}
-use Rattle.keys.proofs.Laws.{lmk-onward}
-use Rattle.keys.specs.declared.Lmk.{Lmk}
+use Rattle.lmk.specs.Lmk.{lmkField}
+use Rattle.lmk.specs.declared.Lmk.{Lmk}
+use Rattle.lmk.proofs.Laws.{lmk-onward}
 use Rattle.endings.specs.Answers.{endOf}
 use Rattle.endings.specs.declared.End.the-variants.{At, Bad}
 use Rattle.endings.specs.Endings.{closed, end, allAgree, lastId}

@@ -7,8 +7,8 @@ use lib.Dec.{leb}
 use Rattle.numbers.specs.declared.Refusal.the-variants.{Field15}
 use Rattle.fields.specs.Fields.{Stage, read, faulty, field, trailer}
 use Rattle.fields.specs.declared.Fault.{Fault}
-use Rattle.keys.specs.Keys.{lmkField, agree, present}
-use Rattle.keys.specs.declared.Lmk.{Lmk}
+use Rattle.lmk.specs.Lmk.{lmkField, agree, present}
+use Rattle.lmk.specs.declared.Lmk.{Lmk}
 use Rattle.stages.specs.declared.Keys.{Keys}
 
 -- "LMK ids present in fields 2, 3 and 11 must all agree"

@@ -6,8 +6,8 @@ ghost use Rattle.endings.specs.Answers.{endOf, endFault};
 use fields::Cursor;
 use fields::Fault;
 use fields::Value;
-use keys::Keyed;
-use keys::Lmk;
+use lmk::Keyed;
+use lmk::Lmk;
 use numbers::Refusal;
 use stages::Keys;
 
@@ -59,7 +59,7 @@ pub fn read_end(command: &[u8], start: Cursor, field: usize, keys: Keys) -> End
     requires { ⌜ field ≤ 64 ⌝ }
     ensures { λ r. ⌜ r ≡ endOf (end field keys (now (command .entry)) (start .at)) ⌝ }
 {
-    let named = keys::lmk_field(start, command);
+    let named = lmk::lmk_field(start, command);
     let Keyed::Got(own, mark) = named else {
         return End::Bad(fields::fault_at(named.refusal(), field, start));
     };

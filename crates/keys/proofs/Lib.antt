@@ -1,2 +1,2 @@
-pub mod Uses
+pub mod Texts
 pub mod Laws

@@ -14,8 +14,8 @@ use Rattle.validation.specs.Validation.{letterP, templateWidth, wholeWidth, isV
 use Rattle.validation.specs.Answers.{shapeOf, shapeWidth}
 use Rattle.validation.specs.declared.Shape.{Shape}
 use Rattle.fields.specs.Fields.{Found, Stage, read, field, run, number, marked}
+use Rattle.uses.specs.declared.Use.{Use}
 use Rattle.keys.specs.Keys.{keyType, key}
-use Rattle.keys.specs.declared.Use.{Use}
 use Rattle.weak.specs.Weak.{weakField}
 use Rattle.weak.specs.declared.Weak.{Weak}
 use Rattle.stages.specs.declared.Keys.{Keys}

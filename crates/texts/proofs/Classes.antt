@@ -47,10 +47,10 @@ in-right c [] ys o = o
 in-right c (x ∷ xs) ys o = inr (in-right c xs ys o)
 
 -- a list of characters that are all of the class
-admitted : (k : Class) (c : ℕ) (cs : List ℕ) → allOf k cs ≡ true → OneOf c cs → admits k c ≡ true
-admitted k c [] h o = absurd o
-admitted k c (x ∷ cs) h (inl e) = ap (admits k) e ∙ all-first k x cs h .0
-admitted k c (x ∷ cs) h (inr o) = admitted k c cs (all-first k x cs h .1) o
+pub one-admitted : (k : Class) (c : ℕ) (cs : List ℕ) → allOf k cs ≡ true → OneOf c cs → admits k c ≡ true
+one-admitted k c [] h o = absurd o
+one-admitted k c (x ∷ cs) h (inl e) = ap (admits k) e ∙ all-first k x cs h .0
+one-admitted k c (x ∷ cs) h (inr o) = one-admitted k c cs (all-first k x cs h .1) o
 
 hex-only : (c : ℕ) → admits CapitalHex c ≡ true → OneOf c (from 0x30 10 ++ from 0x41 6)
 hex-only c h = by-test (between 0x30 0x39 c) refl h
@@ -72,7 +72,7 @@ all-of k chars one (c ∷ cs) m = rw (one c (m .0)) (all-of k chars one cs (m .1
 pub classes-printed : ClassesPrinted
 unfolding from allOf
 classes-printed = (
-  λ cs. (made-of Digit (from 0x30 10) (λ c. range-only 0x30 0x39 10 c refl) cs, all-of Digit (from 0x30 10) (λ c. admitted Digit c (from 0x30 10) refl) cs),
-  λ cs. (made-of CapitalHex (from 0x30 10 ++ from 0x41 6) hex-only cs, all-of CapitalHex (from 0x30 10 ++ from 0x41 6) (λ c. admitted CapitalHex c (from 0x30 10 ++ from 0x41 6) refl) cs),
-  λ cs. (made-of Printable (from 0x20 95) (λ c. range-only 0x20 0x7E 95 c refl) cs, all-of Printable (from 0x20 95) (λ c. admitted Printable c (from 0x20 95) refl) cs),
+  λ cs. (made-of Digit (from 0x30 10) (λ c. range-only 0x30 0x39 10 c refl) cs, all-of Digit (from 0x30 10) (λ c. one-admitted Digit c (from 0x30 10) refl) cs),
+  λ cs. (made-of CapitalHex (from 0x30 10 ++ from 0x41 6) hex-only cs, all-of CapitalHex (from 0x30 10 ++ from 0x41 6) (λ c. one-admitted CapitalHex c (from 0x30 10 ++ from 0x41 6) refl) cs),
+  λ cs. (made-of Printable (from 0x20 95) (λ c. range-only 0x20 0x7E 95 c refl) cs, all-of Printable (from 0x20 95) (λ c. one-admitted Printable c (from 0x20 95) refl) cs),
 )

@@ -24,19 +24,11 @@ use Rattle.fields.proofs.Laws.{run-whole, run-found, number-whole, number-found
 use Rattle.fields.proofs.Reading.{behind-done}
 use Rattle.texts.specs.Texts.{Optional, absent, present, optionalText, asTwoDigits}
 use Rattle.texts.specs.Exact.{Writing, Opens, Apart, Exact}
-use Rattle.texts.specs.Joining.{never, mapped, either, eitherFine, eitherText, eitherValue, optional, optionalFine, optionalValue}
+use Rattle.texts.specs.Joining.{mapped, either, eitherFine, eitherText, eitherValue, optional, optionalFine, optionalValue}
 use Rattle.texts.specs.Writings.{runs, numbers, trailing, trailers}
 use Rattle.texts.proofs.Closing.{apart-of}
 
 -- ---- readers of any kind
-
--- one that refuses everything
-pub refusing-exact : {A : Type 0} (q : Refusal) → Exact {A = A} (λ _. refused q) never
-refusing-exact q = record {
-  back = λ p rest g. absurd p;
-  only = λ cs a n e. absurd (let z : _≡_ {A = ℕ} 0 1 = cc in omega arith);
-  apart = λ p q rest rest′ g h e. absurd p;
-}
 
 -- one whose value is turned into another
 pub mapped-exact : {A B : Type 0} (f : A → B) (reader : List ℕ → Found A) (w : Writing A) → Exact reader w
@@ -59,10 +51,10 @@ mapped-exact {A} {B} f reader w x = record {
 }
 
 -- one that is asked only where a character is there
-pub some-exact : {A : Type 0} (q : Refusal) (reader : List ℕ → Found A) (w : Writing A) → Exact reader w → ((p : w .Part) → 1 ≤ length (w .text p))
+pub some-exact : {A : Type 0} (q : Refusal) (reader : List ℕ → Found A) (w : Writing A) → Exact reader w → ((p : w .Part) (rest : List ℕ) → w .fine p rest → 1 ≤ length (w .text p))
     → Exact (λ cs. cond (leb 1 (length cs)) (reader cs) (refused q)) w
 some-exact {A} q reader w x some = record {
-  back = λ p rest g. let l = some p in rw (le-leb 1 (length (w .text p ++ rest)) (omega (arith, length-append (w .text p) rest))) (x .back p rest g);
+  back = λ p rest g. let l = some p rest g in rw (le-leb 1 (length (w .text p ++ rest)) (omega (arith, length-append (w .text p) rest))) (x .back p rest g);
   only = λ cs a n e. x .only cs a n (there (leb 1 (length cs)) (reader cs) a n e);
   apart = x .apart;
 }

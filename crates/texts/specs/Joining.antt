@@ -22,10 +22,6 @@ joined at w next = record {
   value = λ p. following at w next (p .0) .value (p .1);
 }
 
--- no text: nothing is read
-abbrev pub never : {A : Type 0} → Writing A
-never = record { Part = ⊥; fine = λ _ _. ⊥; text = λ _. []; value = λ p. absurd p }
-
 -- the same texts, read as other values
 abbrev pub mapped : {A B : Type 0} → (A → B) → Writing A → Writing B
 mapped f w = record { Part = w .Part; fine = w .fine; text = w .text; value = λ p. f (w .value p) }

@@ -9,7 +9,7 @@ use mathlib.Core.Bool.{Bool, true, false, _&&_, _||_}
 use lib.ListN.{length, getD, take, drop, length-append, length-drop, take-append-drop}
 use lib.Seq.{take-at, drop-at, length-take-le}
 use lib.Dec.{leb, eqb}
-use borrow.Author.Tests.{leb-true, le-leb, eqb-true}
+use borrow.Author.Tests.{leb-true, le-leb, eqb-true, eq-eqb}
 use Rattle.nibbles.specs.Nibbles.{within}
 use Rattle.nibbles.proofs.Lists.{and-left, and-right}
 use Rattle.alphabet.specs.Alphabet.{admits, allOf, begins, valueOf}
@@ -19,26 +19,28 @@ use Rattle.numbers.specs.declared.Refusal.the-variants.{Field15, Key26}
 use Rattle.numbers.proofs.Laws.{then-done, passed}
 use Rattle.fields.specs.Fields.{run, number}
 use Rattle.fields.proofs.Laws.{run-whole, run-found}
-use Rattle.keys.specs.Keys.{saidLength, blockLength, usageFor, modeFor, permits, keyBlock}
-use Rattle.keys.specs.declared.Use.{Use}
-use Rattle.keys.specs.declared.Use.the-variants.{PinKey, Pvk}
-use Rattle.keys.specs.declared.Lmk.the-variants.{Id}
-use Rattle.keys.proofs.Laws.{length-whole, length-found, Block, block-done, block-found}
+use Rattle.lmk.specs.declared.Lmk.the-variants.{Id}
+use Rattle.uses.specs.Uses.{usagesIn, algorithmT, modesIn, beginsOne, isOne, permits}
+use Rattle.uses.specs.declared.Use.{Use}
+use Rattle.uses.specs.declared.Usages.{Usages}
+use Rattle.uses.specs.declared.Usages.the-variants.{P0Or71Or72, V1}
+use Rattle.uses.specs.declared.Modes.{Modes}
+use Rattle.uses.specs.declared.Modes.the-variants.{BOrDOrN, COrGOrN}
+use Rattle.keylengths.specs.KeyLengths.{saidLength, blockLength}
+use Rattle.keylengths.proofs.Laws.{length-whole, length-found}
+use Rattle.keyblocks.specs.KeyBlocks.{keyBlock}
+use Rattle.keyblocks.proofs.Laws.{Block, block-done, block-found}
 use Rattle.texts.specs.Characters.{printed, OneOf}
-use Rattle.texts.specs.Texts.{asTwoDigits, asFourDigits}
+use Rattle.texts.specs.Texts.{Run, asTwoDigits, asFourDigits}
 use Rattle.texts.specs.Exact.{Opens, Exact}
 use Rattle.texts.proofs.Runs.{all-append, all-both, all-first, begins-split, fronts, two-told}
 use Rattle.texts.proofs.Closing.{apart-of}
+use Rattle.texts.proofs.Classes.{one-admitted}
 use Rattle.texts.proofs.Readers.{run-exact, number-exact, digit-value, digit-admits, digit-char}
 use Rattle.texts_keys.specs.KeyTexts.{KeyBlock, IsBlock, blockText}
 use Rattle.texts_keys.specs.KeyWritings.{ruleFor, blocks}
 
 -- ---- version, usage and mode
-
--- one test of two
-or-else : {P Q : Type 0} (a b : Bool) → (a ≡ true → P) → (b ≡ true → Q) → (a || b) ≡ true → P ⊎ Q
-or-else true b f g h = inl (f refl)
-or-else false b f g h = inr (g h)
 
 version-back : (c : ℕ) → OneOf c (printed "01") → (admits Digit c ≡ true) × (valueOf c ≤ 1)
 unfolding valueOf
@@ -54,58 +56,79 @@ version-only c e h = by (valueOf c) e h
     by (suc zero) e h = inr (inl e)
     by (suc (suc v)) e h = absurd (omega arith)
 
--- a usage of the rule is two printable characters
-record Two (for : Use) (usage : List ℕ) : Type 0 where
+-- every usage is two printable characters
+Pairs : List (List ℕ) → Type 0
+Pairs [] = Unit {0}
+Pairs (t ∷ ts) = Run Printable 2 t × Pairs ts
+
+-- those of the table are, and its modes are printable
+usages-pairs : (u : Usages) → Pairs (usagesIn u)
+unfolding Pairs allOf
+usages-pairs P0Or71Or72 = ((refl, refl), ((refl, refl), ((refl, refl), tt)))
+usages-pairs V1 = ((refl, refl), tt)
+
+modes-printable : (m : Modes) → allOf Printable (modesIn m) ≡ true
+unfolding allOf
+modes-printable BOrDOrN = refl
+modes-printable COrGOrN = refl
+
+-- one test of two
+or-else : {P Q : Type 0} (a b : Bool) → (a ≡ true → P) → (b ≡ true → Q) → (a || b) ≡ true → P ⊎ Q
+or-else true b f g h = inl (f refl)
+or-else false b f g h = inr (g h)
+
+or-right : (a b : Bool) → b ≡ true → (a || b) ≡ true
+or-right true b h = refl
+or-right false b h = h
+
+-- a usage of the rule is two printable characters, and found where it stands
+record Two (us : List (List ℕ)) (usage : List ℕ) : Type 0 where
   u₁ : ℕ
   u₂ : ℕ
   two : usage ≡ u₁ ∷ u₂ ∷ []
-  used : (cs : List ℕ) → usageFor for (u₁ ∷ u₂ ∷ cs) ≡ true
+  used : (cs : List ℕ) → beginsOne us (u₁ ∷ u₂ ∷ cs) ≡ true
   printable : (admits Printable u₁ ≡ true) × (admits Printable u₂ ≡ true)
 
-usage-back : (for : Use) (usage : List ℕ) → OneOf usage (ruleFor for .usages) → Two for usage
-unfolding usageFor begins
-usage-back PinKey usage (inl e) = record { u₁ = 0x50; u₂ = 0x30; two = e; used = λ cs. refl; printable = (refl, refl) }
-usage-back PinKey usage (inr (inl e)) = record { u₁ = 0x37; u₂ = 0x31; two = e; used = λ cs. refl; printable = (refl, refl) }
-usage-back PinKey usage (inr (inr (inl e))) = record { u₁ = 0x37; u₂ = 0x32; two = e; used = λ cs. refl; printable = (refl, refl) }
-usage-back PinKey usage (inr (inr (inr z))) = absurd z
-usage-back Pvk usage (inl e) = record { u₁ = 0x56; u₂ = 0x31; two = e; used = λ cs. refl; printable = (refl, refl) }
-usage-back Pvk usage (inr z) = absurd z
+usage-back : (us : List (List ℕ)) (usage : List ℕ) → Pairs us → OneOf usage us → Two us usage
+unfolding Pairs beginsOne begins
+usage-back [] usage p o = absurd o
+usage-back (t ∷ us) usage p (inl e) = own t (p .0) e
+  where
+    own : (t : List ℕ) → Run Printable 2 t → usage ≡ t → Two (t ∷ us) usage
+    own [] r e = absurd (omega (arith, r .0))
+    own (a ∷ []) r e = absurd (omega (arith, r .0))
+    own (a ∷ b ∷ []) r e =
+        let first = all-first Printable a (b ∷ []) (r .1) in
+        record { u₁ = a; u₂ = b; two = e; used = λ cs. rw (eq-eqb a a refl, eq-eqb b b refl); printable = (first .0, all-first Printable b [] (first .1) .0) }
+    own (a ∷ b ∷ c ∷ t) r e = absurd (omega (arith, r .0))
+usage-back (t ∷ us) usage p (inr o) =
+    let w = usage-back us usage (p .1) o in
+    record { u₁ = w .u₁; u₂ = w .u₂; two = w .two; used = λ cs. or-right (begins t (w .u₁ ∷ w .u₂ ∷ cs)) (beginsOne us (w .u₁ ∷ w .u₂ ∷ cs)) (w .used cs); printable = w .printable }
 
 -- two characters that are a text
 pair : (t : List ℕ) (x y : ℕ) (cs : List ℕ) → length t ≡ 2 → begins t (x ∷ y ∷ cs) ≡ true → x ∷ y ∷ [] ≡ t
 pair t x y cs l h = ap (take 2) (begins-split t (x ∷ y ∷ cs) h) ∙ take-at t (drop (length t) (x ∷ y ∷ cs)) 2 l
 
-usage-only : (for : Use) (x y : ℕ) (cs : List ℕ) → usageFor for (x ∷ y ∷ cs) ≡ true → OneOf (x ∷ y ∷ []) (ruleFor for .usages)
-unfolding usageFor
-usage-only PinKey x y cs h = or-else _ _ (pair (printed "P0") x y cs refl) (or-else _ _ (pair (printed "71") x y cs refl) (λ g. inl (pair (printed "72") x y cs refl g))) h
-usage-only Pvk x y cs h = inl (pair (printed "V1") x y cs refl h)
+usage-only : (us : List (List ℕ)) → Pairs us → (x y : ℕ) (cs : List ℕ) → beginsOne us (x ∷ y ∷ cs) ≡ true → OneOf (x ∷ y ∷ []) us
+unfolding Pairs beginsOne
+usage-only [] p x y cs h = absurd (let z : _≡_ {A = ℕ} 0 1 = cc in omega arith)
+usage-only (t ∷ us) p x y cs h = or-else (begins t (x ∷ y ∷ cs)) (beginsOne us (x ∷ y ∷ cs)) (pair t x y cs (p .0 .0)) (usage-only us (p .1) x y cs) h
 
-mode-back : (for : Use) (c : ℕ) → OneOf c (ruleFor for .modes) → (modeFor for c ≡ true) × (admits Printable c ≡ true)
-unfolding modeFor
-mode-back PinKey c (inl e) = rw e (refl, refl)
-mode-back PinKey c (inr (inl e)) = rw e (refl, refl)
-mode-back PinKey c (inr (inr (inl e))) = rw e (refl, refl)
-mode-back PinKey c (inr (inr (inr z))) = absurd z
-mode-back Pvk c (inl e) = rw e (refl, refl)
-mode-back Pvk c (inr (inl e)) = rw e (refl, refl)
-mode-back Pvk c (inr (inr (inl e))) = rw e (refl, refl)
-mode-back Pvk c (inr (inr (inr z))) = absurd z
+mode-back : (ms : List ℕ) (c : ℕ) → OneOf c ms → isOne ms c ≡ true
+unfolding isOne
+mode-back [] c o = absurd o
+mode-back (m ∷ ms) c (inl e) = rw (eq-eqb c m e)
+mode-back (m ∷ ms) c (inr o) = or-right (eqb c m) (isOne ms c) (mode-back ms c o)
 
-mode-only : (for : Use) (c : ℕ) → modeFor for c ≡ true → OneOf c (ruleFor for .modes)
-unfolding modeFor
-mode-only PinKey c h = or-else _ _ (eqb-true c 0x42) (or-else _ _ (eqb-true c 0x44) (λ g. inl (eqb-true c 0x4E g))) h
-mode-only Pvk c h = or-else _ _ (eqb-true c 0x43) (or-else _ _ (eqb-true c 0x47) (λ g. inl (eqb-true c 0x4E g))) h
+mode-only : (ms : List ℕ) (c : ℕ) → isOne ms c ≡ true → OneOf c ms
+unfolding isOne
+mode-only [] c h = absurd (let z : _≡_ {A = ℕ} 0 1 = cc in omega arith)
+mode-only (m ∷ ms) c h = or-else (eqb c m) (isOne ms c) (eqb-true c m) (mode-only ms c) h
 
 -- the algorithm is the same in every rule
-algorithm-back : (for : Use) (c : ℕ) → OneOf c (ruleFor for .algorithms) → c ≡ 0x54
-algorithm-back PinKey c (inl e) = e
-algorithm-back PinKey c (inr z) = absurd z
-algorithm-back Pvk c (inl e) = e
-algorithm-back Pvk c (inr z) = absurd z
-
-algorithm-only : (for : Use) (c : ℕ) → c ≡ 0x54 → OneOf c (ruleFor for .algorithms)
-algorithm-only PinKey c e = inl e
-algorithm-only Pvk c e = inl e
+algorithm-back : (c : ℕ) → OneOf c (printed "T") → c ≡ algorithmT
+algorithm-back c (inl e) = e
+algorithm-back c (inr z) = absurd z
 
 -- ---- what is written is read back
 
@@ -124,6 +147,9 @@ module _ (for : Use) (k : KeyBlock) (g : IsBlock (ruleFor for) k) (rest : List �
   cs : List ℕ
   unfolding body
   cs = blockText k ++ rest
+
+  usage-two : Two (usagesIn (for .usages)) (k .usage)
+  usage-two = usage-back (usagesIn (for .usages)) (k .usage) (usages-pairs (for .usages)) (g .usage)
 
   said : saidLength cs ≡ long
   unfolding long cs
@@ -150,15 +176,15 @@ module _ (for : Use) (k : KeyBlock) (g : IsBlock (ruleFor for) k) (rest : List �
   body-long : length body ≡ long - 5
   unfolding body long
   body-long =
-      let u = usage-back for (k .usage) (g .usage) in
+      let u = usage-two in
       omega (arith, ap length (u .two), length-append (k .usage) (k .algorithm ∷ (k .mode ∷ (k .unjudged ++ (asTwoDigits (k .id) ++ k .tail)))), length-append (k .unjudged) (asTwoDigits (k .id) ++ k .tail), length-append (asTwoDigits (k .id)) (k .tail), g .unjudged .0)
 
   body-printable : allOf Printable body ≡ true
   unfolding body allOf
   body-printable =
-      let u = usage-back for (k .usage) (g .usage) in
+      let u = usage-two in
       let i = g .id .1 in
-      rw (u .two, u .printable .0, u .printable .1, algorithm-back for (k .algorithm) (g .algorithm), mode-back for (k .mode) (g .mode) .1, all-append Printable (k .unjudged) (asTwoDigits (k .id) ++ k .tail), g .unjudged .1, digit-printable (k .id / 10) (omega arith), digit-printable (k .id % 10) (omega arith))
+      rw (u .two, u .printable .0, u .printable .1, algorithm-back (k .algorithm) (g .algorithm), one-admitted Printable (k .mode) (modesIn (for .modes)) (modes-printable (for .modes)) (g .mode), all-append Printable (k .unjudged) (asTwoDigits (k .id) ++ k .tail), g .unjudged .1, digit-printable (k .id / 10) (omega arith), digit-printable (k .id % 10) (omega arith))
       (g .tail)
 
   text : run Printable Field15 Field15 (long - 5) (drop 5 cs) ≡ done (long - 5, long - 5)
@@ -168,13 +194,13 @@ module _ (for : Use) (k : KeyBlock) (g : IsBlock (ruleFor for) k) (rest : List �
   permitted : permits for cs ≡ true
   unfolding cs permits
   permitted =
-      let u = usage-back for (k .usage) (g .usage) in
-      rw (u .two, u .used _, algorithm-back for (k .algorithm) (g .algorithm), mode-back for (k .mode) (g .mode) .0)
+      let u = usage-two in
+      rw (u .two, u .used _, algorithm-back (k .algorithm) (g .algorithm), mode-back (modesIn (for .modes)) (k .mode) (g .mode))
 
   named : number 0 9 Field15 (drop 14 cs) ≡ done (k .id, 2)
   unfolding cs
   named =
-      let u = usage-back for (k .usage) (g .usage) in
+      let u = usage-two in
       let e : drop 5 ((k .unjudged ++ (asTwoDigits (k .id) ++ k .tail)) ++ rest) ≡ asTwoDigits (k .id) ++ (k .tail ++ rest)
       = ap (drop 5) (append-assoc (k .unjudged) (asTwoDigits (k .id) ++ k .tail) rest) ∙ drop-at (k .unjudged) ((asTwoDigits (k .id) ++ k .tail) ++ rest) 5 (g .unjudged .0) ∙ append-assoc (asTwoDigits (k .id)) (k .tail) rest in
       rw (u .two, e) (number-exact 0 9 Field15 (omega arith) .back (k .id) (k .tail ++ rest) (omega arith, omega (arith, g .id .1)))
@@ -237,8 +263,10 @@ block-only for l id n b (nine c₀ c₁ c₂ c₃ c₄ c₅ c₆ c₇ c₈ tail)
     let d = length-digits l n 5 (b .sized) in
     let h₀ = all-first Digit c₀ (c₁ ∷ c₂ ∷ c₃ ∷ c₄ ∷ []) (d .0) in
     let p = b .permitted in
-    let usage = and-left (usageFor for (c₅ ∷ c₆ ∷ c₇ ∷ c₈ ∷ tail)) (eqb c₇ 0x54 && modeFor for c₈) p in
-    let am = and-right (usageFor for (c₅ ∷ c₆ ∷ c₇ ∷ c₈ ∷ tail)) (eqb c₇ 0x54 && modeFor for c₈) p in
+    let us = usagesIn (for .usages) in
+    let ms = modesIn (for .modes) in
+    let usage = and-left (beginsOne us (c₅ ∷ c₆ ∷ c₇ ∷ c₈ ∷ tail)) (eqb c₇ algorithmT && isOne ms c₈) p in
+    let am = and-right (beginsOne us (c₅ ∷ c₆ ∷ c₇ ∷ c₈ ∷ tail)) (eqb c₇ algorithmT && isOne ms c₈) p in
     let o = number-exact 0 9 Field15 (omega arith) .only (drop 5 tail) id 2 (b .named) in
     let r = run-found Printable Field15 Field15 (n - 5) (c₅ ∷ c₆ ∷ c₇ ∷ c₈ ∷ tail) (n - 5) (n - 5) (b .text) in
     let unjudged = take 5 tail in
@@ -264,9 +292,9 @@ block-only for l id n b (nine c₀ c₁ c₂ c₃ c₄ c₅ c₆ c₇ c₈ tail)
       good = record {
         version = version-only c₀ (digit-char c₀ (h₀ .0) .0) (d .1);
         size = omega (arith, most, f .3, f .4);
-        usage = usage-only for c₅ c₆ (c₇ ∷ c₈ ∷ tail) usage;
-        algorithm = algorithm-only for c₇ (eqb-true c₇ 0x54 (and-left (eqb c₇ 0x54) (modeFor for c₈) am));
-        mode = mode-only for c₈ (and-right (eqb c₇ 0x54) (modeFor for c₈) am);
+        usage = usage-only us (usages-pairs (for .usages)) c₅ c₆ (c₇ ∷ c₈ ∷ tail) usage;
+        algorithm = inl (eqb-true c₇ algorithmT (and-left (eqb c₇ algorithmT) (isOne ms c₈) am));
+        mode = mode-only ms c₈ (and-right (eqb c₇ algorithmT) (isOne ms c₈) am);
         unjudged = (five, split .0);
         id = rw (o .same) (o .good);
         tail = digits .1;
@@ -282,7 +310,7 @@ block-told : (for : Use) (k l : KeyBlock) (rest rest′ : List ℕ) → IsBlock 
 block-told for k l rest rest′ g h e =
     let v : k .version ≡ l .version = cc in
     let t : k .usage ++ (k .algorithm ∷ (k .mode ∷ (k .unjudged ++ (asTwoDigits (k .id) ++ k .tail)))) ≡ l .usage ++ (l .algorithm ∷ (l .mode ∷ (l .unjudged ++ (asTwoDigits (l .id) ++ l .tail)))) = cc in
-    let u = fronts 2 (k .usage) (l .usage) _ _ (ap length (usage-back for (k .usage) (g .usage) .two)) (ap length (usage-back for (l .usage) (h .usage) .two)) t in
+    let u = fronts 2 (k .usage) (l .usage) _ _ (ap length (usage-two for k g rest .two)) (ap length (usage-two for l h rest′ .two)) t in
     let b = u .1 in
     let a : k .algorithm ≡ l .algorithm = cc in
     let m : k .mode ≡ l .mode = cc in

@@ -1,38 +1,39 @@
 -- The readers of key type, key and LMK id are exact.
 -- Assumes nothing.
-use Prim.Native.Nat.{ℕ, _≤_}
+use Prim.Native.Nat.{ℕ, suc, _≤_}
 use native.Mathlib.Omega.{arith}
 use mathlib.Core.Path.{_≡_, refl, sym, ap, _∙_}
 use mathlib.Core.Logic.{inl, inr, _↔_}
-use mathlib.Core.List.{List, _++_}
+use mathlib.Core.List.{List, [], _∷_, _++_}
 use mathlib.Core.Bool.{Bool, true, false, cond, _&&_}
-use lib.ListN.{length, drop}
+use lib.ListN.{length, getD, drop}
 use lib.Dec.{eqb}
 use borrow.Author.Tests.{eqb-true, eq-eqb}
 use Rattle.nibbles.proofs.Lists.{and-left, and-right}
-use Rattle.alphabet.specs.Alphabet.{begins}
+use Rattle.alphabet.specs.Alphabet.{admits, begins}
 use Rattle.alphabet.specs.declared.Class.the-variants.{CapitalHex}
 use Rattle.numbers.specs.Numbers.{done, refused}
-use Rattle.numbers.specs.declared.Refusal.the-variants.{Field15, Key26}
+use Rattle.numbers.specs.declared.Refusal.the-variants.{Field15}
 use Rattle.numbers.proofs.Laws.{value-of}
-use Rattle.fields.specs.Fields.{Found, run, number}
+use Rattle.fields.specs.Fields.{Found, run, number, marked}
+use Rattle.lmk.specs.Lmk.{lmkMark, lmkField, agree}
+use Rattle.lmk.specs.declared.Lmk.{Lmk}
+use Rattle.lmk.specs.declared.Lmk.the-variants.{Absent, Id}
+use Rattle.uses.specs.Uses.{pinKey, pvk}
+use Rattle.uses.specs.declared.Use.{Use}
+use Rattle.keyblocks.specs.KeyBlocks.{keyBlock}
 use Rattle.keys.specs.Keys as reader
-use Rattle.keys.specs.Keys.{keyType, hexKey, lettered, key, lmkField, agree}
+use Rattle.keys.specs.Keys.{onlyUOrT, onlyS, keyType, hexKey, letterU, letterT, letterS, admitted, lettered, key}
 use Rattle.keys.specs.declared.Letters.{Letters}
-use Rattle.keys.specs.declared.Letters.the-variants.{UOrT, S}
-use Rattle.keys.specs.declared.Use.{Use}
-use Rattle.keys.specs.declared.Lmk.{Lmk}
-use Rattle.keys.specs.declared.Lmk.the-variants.{Absent, Id}
-use Rattle.texts.specs.Characters.{printed, OneOf}
-use Rattle.texts.specs.Texts.{Optional, absent, present}
+use Rattle.texts.specs.Texts.{Run, Optional, absent, present}
 use Rattle.texts.specs.Exact.{Writing, Opens, Exact}
-use Rattle.texts.specs.Joining.{Same, never, mapped, either}
+use Rattle.texts.specs.Joining.{Same, mapped, either}
 use Rattle.texts.specs.Writings.{runs, numbers}
-use Rattle.texts.proofs.Runs.{begins-split}
+use Rattle.texts.proofs.Runs.{begins-split, all-first}
 use Rattle.texts.proofs.Closing.{apart-of, exact-as}
-use Rattle.texts.proofs.Readers.{refusing-exact, mapped-exact, some-exact, either-exact, optional-exact, run-exact, number-exact}
-use Rattle.texts_keys.specs.KeyTexts.{KeyType, is001, is002, isFFF, typeText, Key, double, triple, block, keyText, wanted, keyIds, ownIds, AllSame}
-use Rattle.texts_keys.specs.KeyWritings.{lettersOf, types, blocks, admitted, lmkOf, keyed, ids, idsRead}
+use Rattle.texts.proofs.Readers.{mapped-exact, some-exact, either-exact, optional-exact, run-exact, number-exact}
+use Rattle.texts_keys.specs.KeyTexts.{KeyType, is001, is002, isFFF, typeText, pinKeyRule, pvkRule, Key, bare, double, triple, block, keyText, Wants, keyIds, ownIds, AllSame}
+use Rattle.texts_keys.specs.KeyWritings.{lettersOf, types, ruleFor, blocks, Admits, lmkOf, keyed, ids, idsRead}
 use Rattle.texts_keys.proofs.KeyBlocks.{block-exact}
 
 -- ---- key type
@@ -63,7 +64,7 @@ type-only cs l n e = by (begins reader.type001 cs) (begins reader.type002 cs) (b
         record { part = p; rest = drop (length (typeText p)) cs; good = tt; whole = begins-split (typeText p) cs h; count = sym (ap (λ (r : Letters × ℕ). r .1) w); same = sym (ap (λ (r : Letters × ℕ). r .0) w) }
 
     by : (x y z : Bool) → begins reader.type001 cs ≡ x → begins reader.type002 cs ≡ y → begins reader.typeFFF cs ≡ z
-        → cond {A = Found Letters} x (done (UOrT, 3)) (cond y (done (UOrT, 3)) (cond z (done (S, 3)) (refused Field15))) ≡ done (l, n) → Opens types cs n l
+        → cond {A = Found Letters} x (done (onlyUOrT, 3)) (cond y (done (onlyUOrT, 3)) (cond z (done (onlyS, 3)) (refused Field15))) ≡ done (l, n) → Opens types cs n l
     by true y z hx hy hz e = opened is001 hx e
     by false true z hx hy hz e = opened is002 hy e
     by false false true hx hy hz e = opened isFFF hz e
@@ -85,111 +86,180 @@ hex-exact : (n : ℕ) → Exact (hexKey n) (hex n)
 unfolding hexKey
 hex-exact n = mapped-exact (λ _. Absent) (run CapitalHex Field15 Field15 n) (runs CapitalHex n) (run-exact CapitalHex Field15 Field15 n)
 
-abbrev hexKeys : Writing Lmk
-hexKeys = either 0x55 (hex 32) (either 0x54 (hex 48) never)
+-- a bare key begins with a hex character, so it has no letter
+bare-first : (n : ℕ) (cs rest : List ℕ) → Run CapitalHex (suc n) cs → admits CapitalHex (getD (cs ++ rest) 0 0) ≡ true
+bare-first n [] rest g = absurd (omega (arith, g .0))
+bare-first n (c ∷ cs) rest g = all-first CapitalHex c cs (g .1) .0
 
-hex-same : (for : Use) → Same hexKeys (keyed UOrT for)
-unfolding begins
-hex-same for = record { to = to; text = text; value = value; good = good; from = from }
+-- what a field may not admit
+abbrev gated : Bool → Writing Lmk → Writing Lmk
+gated b w = record { Part = w .Part; fine = λ p rest. (b ≡ true) × w .fine p rest; text = w .text; value = w .value }
+
+admitted-exact : (b : Bool) (reader : List ℕ → Found Lmk) (w : Writing Lmk) → Exact reader w → Exact (λ cs. admitted b (reader cs)) (gated b w)
+admitted-exact b reader w x = record {
+  back = λ p rest g. rw (g .0) (x .back p rest (g .1));
+  only = only b;
+  apart = λ p q rest rest′ g h e. x .apart p q rest rest′ (g .1) (h .1) e;
+}
   where
-    other : OneOf 0x53 (printed "UT") → ⊥
-    other (inl e) = omega arith
-    other (inr (inl e)) = omega arith
-    other (inr (inr z)) = z
+    only : (b : Bool) (cs : List ℕ) (l : Lmk) (n : ℕ) → admitted b (reader cs) ≡ done (l, n) → Opens (gated b w) cs n l
+    only true cs l n e =
+        let o = x .only cs l n e in
+        record { part = o .part; rest = o .rest; good = (refl, o .good); whole = o .whole; count = o .count; same = o .same }
+    only false cs l n e = absurd (let z : _≡_ {A = ℕ} 0 1 = cc in omega arith)
 
-    to : hexKeys .Part → Key
-    to (inl cs) = double cs
-    to (inr (inl cs)) = triple cs
-    to (inr (inr u)) = absurd u
-
-    text : (p : hexKeys .Part) → keyText (to p) ≡ hexKeys .text p
-    text (inl cs) = refl
-    text (inr (inl cs)) = refl
-    text (inr (inr u)) = absurd u
-
-    value : (p : hexKeys .Part) → keyed UOrT for .value (to p) ≡ hexKeys .value p
-    value (inl cs) = refl
-    value (inr (inl cs)) = refl
-    value (inr (inr u)) = absurd u
-
-    good : (p : hexKeys .Part) (rest : List ℕ) → hexKeys .fine p rest → keyed UOrT for .fine (to p) rest
-    good (inl cs) rest g = (inl refl, g)
-    good (inr (inl cs)) rest g = (inr (inl refl), g .1)
-    good (inr (inr u)) rest g = absurd u
-
-    from : (q : Key) (rest : List ℕ) → keyed UOrT for .fine q rest → (p : hexKeys .Part) × (to p ≡ q) × hexKeys .fine p rest
-    from (double cs) rest g = (inl cs, refl, g .1)
-    from (triple cs) rest g = (inr (inl cs), refl, (refl, g .1))
-    from (block k) rest g = absurd (other (g .0))
-
-hex-keys : (for : Use) → Exact (lettered UOrT for) (keyed UOrT for)
-unfolding lettered
-hex-keys for =
-    exact-as hexKeys (keyed UOrT for) (hex-same for) (lettered UOrT for)
-    (either-exact 0x55 _ _ (hex 32) (either 0x54 (hex 48) never) (hex-exact 32) (either-exact 0x54 _ _ (hex 48) never (hex-exact 48) (refusing-exact Key26)))
-
-abbrev blockKeys : Use → Writing Lmk
-blockKeys for = either 0x53 (blocks for) never
-
-block-same : (for : Use) → Same (blockKeys for) (keyed S for)
-block-same for = record { to = to; text = text; value = value; good = good; from = from }
+-- a bare key, whose first character the reader looks at before
+bare-exact : (b : Bool) → Exact (λ cs. admitted (b && admits CapitalHex (getD cs 0 0)) (hexKey 32 cs)) (gated b (hex 32))
+bare-exact b = record {
+  back = λ p rest g. rw (g .0, bare-first 31 p rest (g .1)) (hex-exact 32 .back p rest (g .1));
+  only = λ cs l n e. only cs l n (b && admits CapitalHex (getD cs 0 0)) refl e;
+  apart = λ p q rest rest′ g h e. hex-exact 32 .apart p q rest rest′ (g .1) (h .1) e;
+}
   where
-    other : (c : ℕ) → (c ≡ 0x53 → ⊥) → OneOf c (printed "S") → ⊥
-    other c n (inl e) = n e
-    other c n (inr z) = z
+    only : (cs : List ℕ) (l : Lmk) (n : ℕ) (t : Bool) → (b && admits CapitalHex (getD cs 0 0)) ≡ t → admitted t (hexKey 32 cs) ≡ done (l, n) → Opens (gated b (hex 32)) cs n l
+    only cs l n true h e =
+        let o = hex-exact 32 .only cs l n e in
+        record { part = o .part; rest = o .rest; good = (and-left b (admits CapitalHex (getD cs 0 0)) h, o .good); whole = o .whole; count = o .count; same = o .same }
+    only cs l n false h e = absurd (let z : _≡_ {A = ℕ} 0 1 = cc in omega arith)
 
-    to : blockKeys for .Part → Key
-    to (inl k) = block k
-    to (inr u) = absurd u
+module _ (letters : Letters) (for : Use) where
+  -- letter by letter
+  abbrev byLetter : Writing Lmk
+  byLetter =
+      either letterU (gated (letters .double) (hex 32))
+      (either letterT (gated (letters .triple) (hex 48))
+      (either letterS (gated (letters .block) (blocks for)) (gated (letters .bare) (hex 32))))
 
-    text : (p : blockKeys for .Part) → keyText (to p) ≡ blockKeys for .text p
-    text (inl k) = refl
-    text (inr u) = absurd u
+  letter-same : Same byLetter (keyed letters for)
+  unfolding begins
+  letter-same = record { to = to; text = text; value = value; good = good; from = from }
+    where
+      to : byLetter .Part → Key
+      to (inl cs) = double cs
+      to (inr (inl cs)) = triple cs
+      to (inr (inr (inl k))) = block k
+      to (inr (inr (inr cs))) = bare cs
 
-    value : (p : blockKeys for .Part) → keyed S for .value (to p) ≡ blockKeys for .value p
-    value (inl k) = refl
-    value (inr u) = absurd u
+      text : (p : byLetter .Part) → keyText (to p) ≡ byLetter .text p
+      text (inl cs) = refl
+      text (inr (inl cs)) = refl
+      text (inr (inr (inl k))) = refl
+      text (inr (inr (inr cs))) = refl
 
-    good : (p : blockKeys for .Part) (rest : List ℕ) → blockKeys for .fine p rest → keyed S for .fine (to p) rest
-    good (inl k) rest g = (inl refl, g)
-    good (inr u) rest g = absurd u
+      value : (p : byLetter .Part) → keyed letters for .value (to p) ≡ byLetter .value p
+      value (inl cs) = refl
+      value (inr (inl cs)) = refl
+      value (inr (inr (inl k))) = refl
+      value (inr (inr (inr cs))) = refl
 
-    from : (q : Key) (rest : List ℕ) → keyed S for .fine q rest → (p : blockKeys for .Part) × (to p ≡ q) × blockKeys for .fine p rest
-    from (double cs) rest g = absurd (other 0x55 (omega arith) (g .0))
-    from (triple cs) rest g = absurd (other 0x54 (omega arith) (g .0))
-    from (block k) rest g = (inl k, refl, g .1)
+      good : (p : byLetter .Part) (rest : List ℕ) → byLetter .fine p rest → keyed letters for .fine (to p) rest
+      good (inl cs) rest g = g
+      good (inr (inl cs)) rest g = g .1
+      good (inr (inr (inl k))) rest g = g .1 .1
+      good (inr (inr (inr cs))) rest g = g .1 .1 .1
 
-block-keys : (for : Use) → Exact (lettered S for) (keyed S for)
-unfolding lettered
-block-keys for = exact-as (blockKeys for) (keyed S for) (block-same for) (lettered S for) (either-exact 0x53 _ _ (blocks for) never (block-exact for) (refusing-exact Key26))
+      -- no letter is a hex character
+      other : (m : ℕ) → admits CapitalHex m ≡ false → (cs rest : List ℕ) → Run CapitalHex 32 cs → marked m (cs ++ rest) ≡ false
+      other m n [] rest g = absurd (omega (arith, g .0))
+      other m n (c ∷ cs) rest g = apart (eqb m c) refl
+        where
+          apart : (b : Bool) → eqb m c ≡ b → (b && true) ≡ false
+          apart true e = sym (all-first CapitalHex c cs (g .1) .0) ∙ ap (admits CapitalHex) (sym (eqb-true m c e)) ∙ n
+          apart false e = refl
 
-pub key-exact : (letters : Letters) (for : Use) → Exact (key letters for) (keyed letters for)
-unfolding key
-key-exact letters for = some-exact Field15 (lettered letters for) (keyed letters for) (by letters) some
-  where
-    by : (letters : Letters) → Exact (lettered letters for) (keyed letters for)
-    by UOrT = hex-keys for
-    by S = block-keys for
+      from : (q : Key) (rest : List ℕ) → keyed letters for .fine q rest → (p : byLetter .Part) × (to p ≡ q) × byLetter .fine p rest
+      from (bare cs) rest g = (inr (inr (inr cs)), refl, (other letterU refl cs rest (g .1), (other letterT refl cs rest (g .1), (other letterS refl cs rest (g .1), g))))
+      from (double cs) rest g = (inl cs, refl, g)
+      from (triple cs) rest g = (inr (inl cs), refl, (refl, g))
+      from (block k) rest g = (inr (inr (inl k)), refl, (refl, (refl, g)))
 
-    some : (p : Key) → 1 ≤ length (keyText p)
-    some p = omega arith
+  lettered-exact : Exact (lettered letters for) (keyed letters for)
+  unfolding lettered
+  lettered-exact =
+      exact-as byLetter (keyed letters for) letter-same (lettered letters for)
+      (either-exact letterU _ _ _ _ (admitted-exact (letters .double) (hexKey 32) (hex 32) (hex-exact 32))
+      (either-exact letterT _ _ _ _ (admitted-exact (letters .triple) (hexKey 48) (hex 48) (hex-exact 48))
+      (either-exact letterS _ _ _ _ (admitted-exact (letters .block) (keyBlock for) (blocks for) (block-exact for)) (bare-exact (letters .bare)))))
+
+  pub key-exact : Exact (key letters for) (keyed letters for)
+  unfolding key
+  key-exact =
+      some-exact Field15 (lettered letters for) (keyed letters for) lettered-exact some
+    where
+      some : (p : Key) (rest : List ℕ) → keyed letters for .fine p rest → 1 ≤ length (keyText p)
+      some (bare cs) rest g = omega (arith, g .1 .0)
+      some (double cs) rest g = omega arith
+      some (triple cs) rest g = omega arith
+      some (block k) rest g = omega arith
 
 -- ---- LMK id
 
 pub id-exact : Exact lmkField ids
 unfolding lmkField
-id-exact = optional-exact 0x25 _ (mapped Id (numbers 0 9)) Absent (mapped-exact Id (number 0 9 Field15) (numbers 0 9) (number-exact 0 9 Field15 (omega arith)))
+id-exact = optional-exact lmkMark _ (mapped Id (numbers 0 9)) Absent (mapped-exact Id (number 0 9 Field15) (numbers 0 9) (number-exact 0 9 Field15 (omega arith)))
 
 -- ---- in the paper's words
 
--- the letters of a key type are those that it wants
-pub wanted-admitted : (t : KeyType) → wanted t ≡ admitted (lettersOf t)
-wanted-admitted is001 = refl
-wanted-admitted is002 = refl
-wanted-admitted isFFF = refl
+-- the letter itself, where there is one
+abbrev lead : List ℕ → ℕ
+lead cs = getD cs 0 0
+
+never-admitted : {A : Type 0} → false ≡ true → A
+never-admitted e = absurd (let z : _≡_ {A = ℕ} 0 1 = cc in omega arith)
+
+hex-wanted : (k : Key) → Wants is001 k ↔ Admits onlyUOrT k
+hex-wanted k = (to k, from k)
+  where
+    to : (k : Key) → Wants is001 k → Admits onlyUOrT k
+    to (bare cs) (inl e) = absurd (omega (arith, ap lead e))
+    to (bare cs) (inr (inl e)) = absurd (omega (arith, ap lead e))
+    to (bare cs) (inr (inr z)) = absurd z
+    to (double cs) w = refl
+    to (triple cs) w = refl
+    to (block k) (inl e) = absurd (omega (arith, ap lead e))
+    to (block k) (inr (inl e)) = absurd (omega (arith, ap lead e))
+    to (block k) (inr (inr z)) = absurd z
+
+    from : (k : Key) → Admits onlyUOrT k → Wants is001 k
+    from (bare cs) a = never-admitted a
+    from (double cs) a = inl refl
+    from (triple cs) a = inr (inl refl)
+    from (block k) a = never-admitted a
+
+block-wanted : (k : Key) → Wants isFFF k ↔ Admits onlyS k
+block-wanted k = (to k, from k)
+  where
+    to : (k : Key) → Wants isFFF k → Admits onlyS k
+    to (bare cs) (inl e) = absurd (omega (arith, ap lead e))
+    to (bare cs) (inr z) = absurd z
+    to (double cs) (inl e) = absurd (omega (arith, ap lead e))
+    to (double cs) (inr z) = absurd z
+    to (triple cs) (inl e) = absurd (omega (arith, ap lead e))
+    to (triple cs) (inr z) = absurd z
+    to (block k) w = refl
+
+    from : (k : Key) → Admits onlyS k → Wants isFFF k
+    from (bare cs) a = never-admitted a
+    from (double cs) a = never-admitted a
+    from (triple cs) a = never-admitted a
+    from (block k) a = inl refl
+
+-- the keys that a type wants are those that its letters admit
+pub wanted-admitted : (t : KeyType) (k : Key) → Wants t k ↔ Admits (lettersOf t) k
+wanted-admitted is001 k = hex-wanted k
+wanted-admitted is002 k = hex-wanted k
+wanted-admitted isFFF k = block-wanted k
+
+-- the uses of a PIN key and of a PVK are the paper's rules
+pub pin-key-ruled : ruleFor pinKey ≡ pinKeyRule
+pin-key-ruled = refl
+
+pub pvk-ruled : ruleFor pvk ≡ pvkRule
+pvk-ruled = refl
 
 -- the ids that are read are those that are present
 pub key-ids : (k : Key) → idsRead (lmkOf k) ≡ keyIds k
+key-ids (bare cs) = refl
 key-ids (double cs) = refl
 key-ids (triple cs) = refl
 key-ids (block k) = refl

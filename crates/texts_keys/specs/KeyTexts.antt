@@ -1,6 +1,5 @@
 -- Fields 1 to 3 and 11: the key type, the two keys and the LMK id.
 use Prim.Native.Nat.{ℕ, _+_, _≤_}
-use Prim.Native.Char.{code}
 use mathlib.Core.Bool.{true}
 use mathlib.Core.List.{List, [], _∷_, _++_}
 use mathlib.Core.Path.{_≡_}
@@ -74,38 +73,41 @@ pub record IsBlock (rule : KeyRule) (k : KeyBlock) : Type 0 where
   pub id : IsId (k .id)
   pub tail : allOf Printable (k .tail) ≡ true
 
--- fields 2 and 3: the characters behind `U`, those behind `T`, or the key block behind `S`
+-- fields 2 and 3: the characters of a bare key, which has no letter, those behind `U`, those behind `T`, or the key block behind `S`
 pub data Key : Type 0 where
-  double triple : List ℕ → Key
+  bare double triple : List ℕ → Key
   block : KeyBlock → Key
 
--- its letter
-abbrev pub letter : Key → ℕ
-letter (double cs) = code "U"
-letter (triple cs) = code "T"
-letter (block k) = code "S"
+-- its letter, where it has one
+abbrev pub letter : Key → List ℕ
+letter (bare cs) = []
+letter (double cs) = printed "U"
+letter (triple cs) = printed "T"
+letter (block k) = printed "S"
 
 -- what stands behind its letter
 abbrev pub behindLetter : Key → List ℕ
+behindLetter (bare cs) = cs
 behindLetter (double cs) = cs
 behindLetter (triple cs) = cs
 behindLetter (block k) = blockText k
 
 -- a key with its letter
 abbrev pub keyText : Key → List ℕ
-keyText k = letter k ∷ behindLetter k
+keyText k = letter k ++ behindLetter k
 
--- "`U` + 32 or `T` + 48 hex characters", or a key block of the rule
+-- "`U` + 32 or `T` + 48 hex characters", a bare key of 32, or a key block of the rule
 abbrev pub IsKey : KeyRule → Key → Type 0
+IsKey rule (bare cs) = Run CapitalHex 32 cs
 IsKey rule (double cs) = Run CapitalHex 32 cs
 IsKey rule (triple cs) = Run CapitalHex 48 cs
 IsKey rule (block k) = IsBlock rule k
 
 -- "Types 001 and 002 want `U` […] or `T` […] in both; FFF wants `S` in both"
-abbrev pub wanted : KeyType → List ℕ
-wanted is001 = printed "UT"
-wanted is002 = printed "UT"
-wanted isFFF = printed "S"
+abbrev pub wanted : KeyType → List (List ℕ)
+wanted is001 = printed "U" ∷ (printed "T" ∷ [])
+wanted is002 = printed "U" ∷ (printed "T" ∷ [])
+wanted isFFF = printed "S" ∷ []
 
 -- so a key, by its letter
 abbrev pub Wants : KeyType → Key → Type 0
@@ -113,6 +115,7 @@ Wants t k = OneOf (letter k) (wanted t)
 
 -- the "LMK ids present" in a key field: a key block's
 abbrev pub keyIds : Key → List ℕ
+keyIds (bare cs) = []
 keyIds (double cs) = []
 keyIds (triple cs) = []
 keyIds (block k) = k .id ∷ []

@@ -1,49 +1,53 @@
 -- How key types, keys and LMK ids are written, with what the readers read of each.
 use Prim.Native.Nat.{ℕ}
+use mathlib.Core.Path.{_≡_}
 use mathlib.Core.List.{List, [], _∷_}
+use mathlib.Core.Bool.{true}
+use Rattle.lmk.specs.declared.Lmk.{Lmk}
+use Rattle.lmk.specs.declared.Lmk.the-variants.{Absent, Id}
+use Rattle.uses.specs.Uses.{usagesIn, modesIn}
+use Rattle.uses.specs.declared.Use.{Use}
+use Rattle.keys.specs.Keys.{onlyUOrT, onlyS}
 use Rattle.keys.specs.declared.Letters.{Letters}
-use Rattle.keys.specs.declared.Letters.the-variants.{UOrT, S}
-use Rattle.keys.specs.declared.Use.{Use}
-use Rattle.keys.specs.declared.Use.the-variants.{PinKey, Pvk}
-use Rattle.keys.specs.declared.Lmk.{Lmk}
-use Rattle.keys.specs.declared.Lmk.the-variants.{Absent, Id}
-use Rattle.texts.specs.Characters.{OneOf}
+use Rattle.texts.specs.Characters.{printed}
 use Rattle.texts.specs.Texts.{asTwoDigits}
 use Rattle.texts.specs.Exact.{Writing}
 use Rattle.texts.specs.Joining.{optional}
-use Rattle.texts_keys.specs.KeyTexts.{KeyType, is001, is002, isFFF, typeText, KeyRule, pinKeyRule, pvkRule, KeyBlock, blockText, IsBlock, Key, double, triple, block, letter, keyText, IsKey, wanted, IsId, markOfId}
+use Rattle.texts_keys.specs.KeyTexts.{KeyType, is001, is002, isFFF, typeText, KeyRule, KeyBlock, blockText, IsBlock, Key, bare, double, triple, block, keyText, IsKey, IsId, markOfId}
 
 -- of a key type its letters are read
 abbrev pub lettersOf : KeyType → Letters
-lettersOf is001 = UOrT
-lettersOf is002 = UOrT
-lettersOf isFFF = S
+lettersOf is001 = onlyUOrT
+lettersOf is002 = onlyUOrT
+lettersOf isFFF = onlyS
 
 abbrev pub types : Writing Letters
 types = record { Part = KeyType; fine = λ _ _. Unit {0}; text = typeText; value = lettersOf }
 
 -- the rule of a use
 abbrev pub ruleFor : Use → KeyRule
-ruleFor PinKey = pinKeyRule
-ruleFor Pvk = pvkRule
+ruleFor for = record { usages = usagesIn (for .usages); algorithms = printed "T"; modes = modesIn (for .modes) }
 
 -- of a key block its LMK id is read
 abbrev pub blocks : Use → Writing Lmk
 blocks for = record { Part = KeyBlock; fine = λ k _. IsBlock (ruleFor for) k; text = blockText; value = λ k. Id (k .id) }
 
--- the letters that a key field admits
-abbrev pub admitted : Letters → List ℕ
-admitted UOrT = wanted is001
-admitted S = wanted isFFF
+-- a key field admits a key by its letter
+abbrev pub Admits : Letters → Key → Type 0
+Admits letters (bare cs) = letters .bare ≡ true
+Admits letters (double cs) = letters .double ≡ true
+Admits letters (triple cs) = letters .triple ≡ true
+Admits letters (block k) = letters .block ≡ true
 
 -- of a key its LMK id is read, where it has one
 abbrev pub lmkOf : Key → Lmk
+lmkOf (bare cs) = Absent
 lmkOf (double cs) = Absent
 lmkOf (triple cs) = Absent
 lmkOf (block k) = Id (k .id)
 
 abbrev pub keyed : Letters → Use → Writing Lmk
-keyed letters for = record { Part = Key; fine = λ k _. OneOf (letter k) (admitted letters) × IsKey (ruleFor for) k; text = keyText; value = lmkOf }
+keyed letters for = record { Part = Key; fine = λ k _. Admits letters k × IsKey (ruleFor for) k; text = keyText; value = lmkOf }
 
 -- an LMK id behind its mark, or none
 abbrev pub ids : Writing Lmk

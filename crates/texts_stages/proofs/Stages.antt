@@ -18,9 +18,10 @@ use Rattle.validation.specs.Answers.{shapeWidth}
 use Rattle.validation.specs.declared.Shape.{Shape}
 use Rattle.fields.specs.Fields.{read, faulty, run, number, trailer}
 use Rattle.fields.proofs.Reading.{read-once}
-use Rattle.keys.specs.Keys.{keyType, key, lmkField}
-use Rattle.keys.specs.declared.Use.{Use}
-use Rattle.keys.specs.declared.Lmk.{Lmk}
+use Rattle.lmk.specs.Lmk.{lmkField}
+use Rattle.lmk.specs.declared.Lmk.{Lmk}
+use Rattle.uses.specs.declared.Use.{Use}
+use Rattle.keys.specs.Keys.{keyType, key}
 use Rattle.weak.specs.Weak.{weakField}
 use Rattle.stages.specs.Stages.{keys, sealed, offsetting, weak, formatField, validationField}
 use Rattle.stages.specs.declared.Keys.{Keys}
@@ -28,14 +29,13 @@ use Rattle.stages.specs.declared.Sealed.{Sealed}
 use Rattle.stages.specs.declared.Offsetting.{Offsetting}
 use Rattle.endings.specs.Endings.{allAgree, lastId, closed, end}
 use Rattle.endings.proofs.Laws.{closed-whole}
-use Rattle.texts.specs.Characters.{OneOf}
 use Rattle.texts.specs.Texts.{asTwoDigits, Optional, absent, present, WherePresent, IsTrailer, trailerText}
 use Rattle.texts.specs.Exact.{Writing, ExactAt}
 use Rattle.texts.specs.Joining.{Same, joined, mapped}
 use Rattle.texts.specs.Writings.{runs, numbers, trailers}
 use Rattle.texts.proofs.Closing.{past-text, stands-at, field-alone, field-exact, field-last, stage-as}
 use Rattle.texts.proofs.Readers.{run-exact, number-exact, trailer-exact}
-use Rattle.texts_keys.specs.KeyTexts.{IsId, letter, ownIds, AllSame}
+use Rattle.texts_keys.specs.KeyTexts.{IsId, ownIds, AllSame}
 use Rattle.texts_keys.specs.KeyWritings.{types, keyed, ids, idsRead}
 use Rattle.texts_keys.proofs.KeyFields.{type-exact, key-exact, id-exact, wanted-admitted, own-ids, ids-agree}
 use Rattle.texts_data.specs.DataTexts.{Validation, withN, withP, validationText, IsValidation}
@@ -60,16 +60,13 @@ keys-same first use₁ use₂ at = record {
   to = λ p. record { type = p .0; first = p .1 .0; second = p .1 .1 };
   text = λ p. refl;
   value = λ p. refl;
-  good = λ p rest g.
-      let same = sym (wanted-admitted (p .0)) in
-      record {
-        wanted = (subst (OneOf (letter (p .1 .0))) same (g .1 .0 .0), subst (OneOf (letter (p .1 .1))) same (g .1 .1 .0));
-        first = g .1 .0 .1;
-        second = g .1 .1 .1;
-      };
+  good = λ p rest g. record {
+    wanted = (wanted-admitted (p .0) (p .1 .0) .1 (g .1 .0 .0), wanted-admitted (p .0) (p .1 .1) .1 (g .1 .1 .0));
+    first = g .1 .0 .1;
+    second = g .1 .1 .1;
+  };
   from = λ k rest g.
-      let same = wanted-admitted (k .type) in
-      ((k .type, (k .first, k .second)), refl, (tt, ((subst (OneOf (letter (k .first))) same (g .wanted .0), g .first), (subst (OneOf (letter (k .second))) same (g .wanted .1), g .second))));
+      ((k .type, (k .first, k .second)), refl, (tt, ((wanted-admitted (k .type) (k .first) .0 (g .wanted .0), g .first), (wanted-admitted (k .type) (k .second) .0 (g .wanted .1), g .second))));
 }
 
 pub keys-exact : (first : ℕ) (use₁ use₂ : Use) (s : List ℕ) (at : ℕ) → ExactAt s at (keys first use₁ use₂ s at) (keysAt first use₁ use₂ at)

@@ -4,7 +4,7 @@ use mathlib.Core.Path.{_≡_}
 use mathlib.Core.List.{List, [], _++_}
 use mathlib.Core.Bool.{Bool}
 use lib.ListN.{length}
-use Rattle.keys.specs.declared.Use.{Use}
+use Rattle.uses.specs.declared.Use.{Use}
 use Rattle.stages.specs.Stages.{part, validationIn}
 use Rattle.stages.specs.declared.Keys.{Keys}
 use Rattle.stages.specs.declared.Sealed.{Sealed}

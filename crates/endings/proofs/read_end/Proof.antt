@@ -7,9 +7,9 @@ use Rattle.numbers.specs.declared.Refusal.{Refusal}
 use Rattle.fields.specs.Fields.{trailer}
 use Rattle.fields.specs.Answers as values
 use Rattle.fields.proofs.Laws.{value-of-found, value-of-bad, field-found, field-bad}
-use Rattle.keys.specs.Keys.{lmkField}
-use Rattle.keys.specs.Answers as keyed
-use Rattle.keys.proofs.Laws.{keyed-found, keyed-bad}
+use Rattle.lmk.specs.Lmk.{lmkField}
+use Rattle.lmk.specs.Answers as keyed
+use Rattle.lmk.proofs.Laws.{keyed-found, keyed-bad}
 use Rattle.endings.proofs.Laws.{closed-over, closed-apart, closed-whole}
 use Rattle.endings.specs.Endings.{end}
 use Rattle.endings.specs.declared.End.the-variants.{Bad}

@@ -4,7 +4,7 @@ use native.Mathlib.Omega.{arith}
 use mathlib.Core.Path.{sym, _∙_}
 use borrow.Author.Needs.{needs}
 use Rattle.keys.specs.Keys.{keyType}
-use Rattle.keys.proofs.Uses.{begins-room}
+use Rattle.keys.proofs.Texts.{begins-room}
 use Rattle.keys.proofs.key_type.Statement.{statement}
 use Rattle.keys.proofs.key_type.Tie as tie
 

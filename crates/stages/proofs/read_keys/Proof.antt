@@ -5,9 +5,10 @@ use mathlib.Core.Path.{ap, sym, _∙_}
 use lib.ListN.{drop}
 use Rattle.numbers.specs.declared.Refusal.{Refusal}
 use Rattle.fields.proofs.Laws.{field-found, field-bad}
+use Rattle.lmk.specs.Answers.{refusalIn}
+use Rattle.lmk.proofs.Laws.{keyed-found, keyed-bad}
 use Rattle.keys.specs.Keys.{keyType, key}
-use Rattle.keys.specs.Answers.{refusalIn}
-use Rattle.keys.proofs.Laws.{typed-found, typed-bad, type-refuses, keyed-found, keyed-bad}
+use Rattle.keys.proofs.Laws.{typed-found, typed-bad, type-refuses}
 use Rattle.stages.specs.Stages.{keys}
 use Rattle.stages.specs.declared.KeysRead.the-variants.{Bad}
 use borrow.Author.Needs.{needs}

@@ -1,0 +1,2 @@
+pub mod Lmk
+pub mod Answers
