@@ -5,6 +5,5 @@ pub mod Rows
 pub mod Table
 pub mod Trips
 pub mod Calls
-pub mod Figures
 pub mod Promises
 pub mod Numbers

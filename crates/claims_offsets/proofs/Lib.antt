@@ -1,4 +1,3 @@
-pub mod Figures
 pub mod Verdicts
 pub mod Texts
 pub mod Digits
