@@ -112,7 +112,7 @@ wrote code pin account fill block room e =
       enough = leb-true 8 room (r .0);
     }
 
-was-read : (code : ℕ) (block account pin : List ℕ) (room : ℕ) → readBlock code block account room ≡ done pin → Read code block account pin
+pub was-read : (code : ℕ) (block account pin : List ℕ) (room : ℕ) → readBlock code block account room ≡ done pin → Read code block account pin
 unfolding readBlock
 was-read code block account pin room e =
     let r = judged Room901 (leb 12 room) room _ pin e in

@@ -7,3 +7,4 @@ pub mod Trips
 pub mod Calls
 pub mod Promises
 pub mod Numbers
+pub mod Codes

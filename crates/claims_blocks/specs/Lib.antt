@@ -1,3 +1,4 @@
 pub mod Claims
 pub mod Figures
 pub mod Promises
+pub mod Codes
