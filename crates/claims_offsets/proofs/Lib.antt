@@ -6,3 +6,4 @@ pub mod Refused
 pub mod Counts
 pub mod Numbers
 pub mod Cores
+pub mod Counted

@@ -2,3 +2,4 @@ pub mod Figures
 pub mod Claims
 pub mod Numbers
 pub mod Cores
+pub mod Counted
