@@ -114,6 +114,6 @@ pub fn is_weak(weak: Weak, command: &[u8], n: usize, digits: u64) -> bool
     }
     // as characters, once: the list is then compared as it stands
     let mut pin = [0u8; 12];
-    pins::put_characters(digits, n, &mut pin);
-    lists(weak, command, &pin[..n])
+    pins::put_characters(digits, weak.length, &mut pin);
+    lists(weak, command, &pin[..weak.length])
 }

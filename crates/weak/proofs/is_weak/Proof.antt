@@ -26,8 +26,8 @@ written : (n w : ℕ) (room out : List ℕ) → out ≡ characters (row n w) ++ 
 written n w room out e = ap (take n) e ∙ take-at (characters (row n w)) room n (characters-length n w)
 
 -- its characters stand in the list where the PIN is on it
-pin-listed : (k : Weak) (s : List ℕ) (n w : ℕ) → Lies k s → n ≡ k .length → lists (characters (row n w)) (k .count) (k .length) (drop (k .list) s) ≡ isOn (row n w) (weakPins k s)
-pin-listed k s n w l e = let room = l .inside in lists-pin (row n w) (k .length) (row-length n w ∙ e) (k .count) (drop (k .list) s) (rw length-drop (omega arith)) (l .digits)
+pin-listed : (k : Weak) (s : List ℕ) (w : ℕ) → Lies k s → lists (characters (row (k .length) w)) (k .count) (k .length) (drop (k .list) s) ≡ isOn (row (k .length) w) (weakPins k s)
+pin-listed k s w l = let room = l .inside in lists-pin (row (k .length) w) (k .length) (row-length (k .length) w) (k .count) (drop (k .list) s) (rw length-drop (omega arith)) (l .digits)
 
 returns : tie.Need-returns
 returns c =
@@ -48,7 +48,7 @@ array-share-prefix-pin c = search needs
 slice-aggregate-lists : tie.Need-slice-aggregate-lists
 slice-aggregate-lists c =
     let a = c .before .before .before .before .before .before .before .args in
-    sym (ap length (written (a .n) (a .digits) _ _ (c .before .before .put-characters .ensures)) ∙ characters-length (a .n) (a .digits))
+    sym (ap length (written (a .weak .length) (a .digits) _ _ (c .before .before .put-characters .ensures)) ∙ characters-length (a .weak .length) (a .digits))
 
 lists-requires : tie.Need-lists-requires
 lists-requires c κs = search needs
@@ -57,8 +57,9 @@ returns-2 : tie.Need-returns-2
 returns-2 c =
     let a = c .before .before .before .before .before .before .before .before .args in
     c .lists .ensures
-    ∙ ap (λ (text : List ℕ). lists text (a .weak .count) (a .weak .length) (drop (a .weak .list) (a .command .now))) (written (a .n) (a .digits) _ _ (c .before .before .before .put-characters .ensures))
-    ∙ pin-listed (a .weak) (a .command .now) (a .n) (a .digits) (c .before .before .before .before .before .before .before .before .pre) (omega arith)
+    ∙ ap (λ (text : List ℕ). lists text (a .weak .count) (a .weak .length) (drop (a .weak .list) (a .command .now))) (written (a .weak .length) (a .digits) _ _ (c .before .before .before .put-characters .ensures))
+    ∙ pin-listed (a .weak) (a .command .now) (a .digits) (c .before .before .before .before .before .before .before .before .pre)
+    ∙ ap (λ (k : ℕ). isOn (row k (a .digits)) (weakPins (a .weak) (a .command .now))) (omega arith)
 
 pub is-weak-spec : {M : Type 1} → statement M
 is-weak-spec =
