@@ -1,5 +1,10 @@
 -- The fields of a command. A reader looks at the characters ahead of the cursor, and answers with the field's value and how many of
--- them the field has, or with a refusal.
+-- them the field has, or with a refusal. A field is a reader with a number and a place; a stage is fields, one behind the other.
+--
+-- Where 04 and an account stand at place 93 of s, `number 4 12 Field15 (drop 93 s)` finds (4, 2), and so
+--   `field 6 (number 4 12 Field15) s 93 next`  is  `next 4 95`:
+-- field 7 is read at place 95, and where the last field ends the stage is `read` what they gave and the next place. Where 13 stands
+-- there it is `faulty` with 15, field 6 and place 93, and no field behind it is read.
 use Prim.Native.Nat.{ℕ, _+_, _*_}
 use mathlib.Core.List.{List, [], _∷_}
 use mathlib.Core.Bool.{Bool, cond}
