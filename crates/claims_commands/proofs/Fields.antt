@@ -173,7 +173,7 @@ validation-gives cs =
 list-gives : (at count : ℕ) (cs : List ℕ) → Only OfFields (list.listed at count cs)
 unfolding list.listed
 list-gives at count cs =
-    either-only OfFields (eqb count 0) _ _ (done-only OfFields (noneAt at, 3))
+    either-only OfFields (eqb count 0) _ _ (done-only OfFields (noneAt at, 0))
     (then-only OfFields (number 4 12 Field15 cs) _ (number-only OfFields 4 12 Field15 refl cs)
     (λ each. then-only OfFields (run Digit WeakList03 WeakList03 (count * each .0) (drop 2 cs)) _ (run-only OfFields Digit WeakList03 WeakList03 refl refl (count * each .0) (drop 2 cs))
     (λ digits. done-only OfFields _)))
@@ -183,7 +183,7 @@ weak-gives : (mark at : ℕ) (cs : List ℕ) → Only OfFields (weakField mark a
 unfolding weakField
 weak-gives mark at cs =
     either-only OfFields (marked mark cs) _ _
-    (then-only OfFields (number 0 99 WeakList03 (drop 1 cs)) _ (number-only OfFields 0 99 WeakList03 refl (drop 1 cs)) (λ count. list-gives at (count .0) (drop 3 cs)))
+    (then-only OfFields (number 0 99 WeakList03 (drop 1 cs)) _ (number-only OfFields 0 99 WeakList03 refl (drop 1 cs)) (λ count. behind-only OfFields 3 _ (list-gives (at + 3) (count .0) (drop 3 cs))))
     (done-only OfFields (noneAt at, 0))
 
 -- 15

@@ -29,7 +29,7 @@ validations = record { Part = Validation; fine = λ v _. IsValidation v; text = 
 -- of a weak list that begins at a place count, length and the place of its entries are read: they stand behind mark, count and length
 abbrev pub weakIn : ℕ → Optional WeakList → Weak
 weakIn at absent = noneAt at
-weakIn at (present noPins) = noneAt at
+weakIn at (present noPins) = noneAt (at + 3)
 weakIn at (present (pins size es)) = record { count = length es; length = size; list = at + 5 }
 
 -- where there is none the next character is not its mark

@@ -18,7 +18,7 @@ use Rattle.numbers.specs.Numbers.{done, refused, andThen}
 use Rattle.numbers.proofs.Laws.{then-done, value-of}
 use Rattle.numbers.specs.declared.Refusal.{Refusal}
 use Rattle.numbers.specs.declared.Refusal.the-variants.{WeakList03, Field15}
-use Rattle.fields.specs.Fields.{Found, run, number, marked}
+use Rattle.fields.specs.Fields.{Found, run, number, marked, behind}
 use Rattle.fields.specs.Answers.{cursorAt, valueFrom, markFrom}
 use Rattle.fields.specs.declared.Cursor.{Cursor}
 use Rattle.fields.specs.declared.Value.the-variants as value
@@ -31,13 +31,13 @@ use Rattle.weak.specs.declared.WeakRead.the-variants.{Got, Bad}
 
 -- ---- behind the count
 
--- so many weak PINs of so many digits each, five characters behind the beginning of the field
+-- so many weak PINs of so many digits each, whose list begins at a place
 abbrev pub listAt : ℕ → ℕ → ℕ → Weak
-listAt at count each = record { count = count; length = each; list = at + 5 }
+listAt list count each = record { count = count; length = each; list = list }
 
 module _ (at count : ℕ) (cs : List ℕ) where
   -- no weak PINs: neither length nor list
-  pub listed-none : count ≡ 0 → listed at count cs ≡ done (noneAt at, 3)
+  pub listed-none : count ≡ 0 → listed at count cs ≡ done (noneAt at, 0)
   unfolding listed
   listed-none e = rw (eq-eqb count 0 e)
 
@@ -54,48 +54,53 @@ module _ (at count : ℕ) (cs : List ℕ) where
 
   -- the list is there
   pub listed-whole : (count ≡ 0 → ⊥) → (each n v m : ℕ) → number 4 12 Field15 cs ≡ done (each, n) → run Digit WeakList03 WeakList03 (count * each) (drop 2 cs) ≡ done (v, m)
-      → listed at count cs ≡ done (listAt at count each, 5 + m)
+      → listed at count cs ≡ done (listAt (at + 2) count each, 2 + m)
   unfolding listed
   listed-whole some each n v m e d = rw (ne-eqb count 0 some, e, d)
 
--- what the code's answers tell of it, where the count ends at a place, three characters behind the beginning of the field
-module _ (s : List ℕ) (start count at : ℕ) (place : at ≡ start + 3) (some : count ≡ 0 → ⊥) where
+-- what the code's answers tell of it, where the count ends at a place
+module _ (s : List ℕ) (count at : ℕ) (some : count ≡ 0 → ⊥) where
   -- it found no length
-  pub behind-unmeasured : (q : Refusal) → value.Bad q ≡ valueFrom at (number 4 12 Field15 (drop at s)) → Bad Field15 ≡ weakFrom start (listed start count (drop at s))
+  pub behind-unmeasured : (q : Refusal) → value.Bad q ≡ valueFrom at (number 4 12 Field15 (drop at s)) → Bad Field15 ≡ weakFrom at (listed at count (drop at s))
   behind-unmeasured q e =
       let bad = value-of-bad at (number 4 12 Field15 (drop at s)) q e in
-      rw (listed-unmeasured start count (drop at s) some q bad, number-refuses 4 12 Field15 (drop at s) q bad)
+      rw (listed-unmeasured at count (drop at s) some q bad, number-refuses 4 12 Field15 (drop at s) q bad)
 
   -- the list stands behind the length
-  behind-place : (each : ℕ) (list : Cursor) → value.Got each list ≡ valueFrom at (number 4 12 Field15 (drop at s)) → list .at ≡ start + 5
-  behind-place each list e = ap (λ (c : Cursor). c .at) (number-read s at each list 4 12 Field15 e .1) ∙ omega arith
+  behind-place : (each : ℕ) (list : Cursor) → value.Got each list ≡ valueFrom at (number 4 12 Field15 (drop at s)) → list .at ≡ at + 2
+  behind-place each list e = ap (λ (c : Cursor). c .at) (number-read s at each list 4 12 Field15 e .1)
 
   -- so do the characters that it reads
   behind-list : (each : ℕ) (list : Cursor) → value.Got each list ≡ valueFrom at (number 4 12 Field15 (drop at s)) → drop 2 (drop at s) ≡ drop (list .at) s
-  behind-list each list e = drop-drop 2 at s ∙ ap (λ (c : Cursor). drop (c .at) s) (sym (number-read s at each list 4 12 Field15 e .1))
+  behind-list each list e = drop-drop 2 at s ∙ ap (λ (i : ℕ). drop i s) (sym (behind-place each list e))
 
   -- it found no list
   pub behind-short : (each : ℕ) (list : Cursor) (q : Refusal) → value.Got each list ≡ valueFrom at (number 4 12 Field15 (drop at s))
-      → value.Bad q ≡ valueFrom (list .at) (run Digit WeakList03 WeakList03 (count * each) (drop (list .at) s)) → Bad WeakList03 ≡ weakFrom start (listed start count (drop at s))
+      → value.Bad q ≡ valueFrom (list .at) (run Digit WeakList03 WeakList03 (count * each) (drop (list .at) s)) → Bad WeakList03 ≡ weakFrom at (listed at count (drop at s))
   behind-short each list q e d =
       let got = value-of-found at (number 4 12 Field15 (drop at s)) each list e in
       let bad = value-of-bad (list .at) (run Digit WeakList03 WeakList03 (count * each) (drop (list .at) s)) q d in
-      rw (listed-short start count (drop at s) some each (got .0) q (got .1) (rw (behind-list each list e) bad), run-refuses Digit WeakList03 (count * each) (drop (list .at) s) q bad)
+      rw (listed-short at count (drop at s) some each (got .0) q (got .1) (rw (behind-list each list e) bad), run-refuses Digit WeakList03 (count * each) (drop (list .at) s) q bad)
 
   -- it found the list
   pub behind-whole : (each : ℕ) (list : Cursor) (v : ℕ) (next : Cursor) → value.Got each list ≡ valueFrom at (number 4 12 Field15 (drop at s))
       → value.Got v next ≡ valueFrom (list .at) (run Digit WeakList03 WeakList03 (count * each) (drop (list .at) s))
-      → Got (record { count = count; length = each; list = list .at }) next ≡ weakFrom start (listed start count (drop at s))
+      → Got (listAt (list .at) count each) next ≡ weakFrom at (listed at count (drop at s))
   behind-whole each list v next e d =
       let got = value-of-found at (number 4 12 Field15 (drop at s)) each list e in
       let found = value-of-found (list .at) (run Digit WeakList03 WeakList03 (count * each) (drop (list .at) s)) v next d in
-      let whole = listed-whole start count (drop at s) some each (got .0) v (found .0) (got .1) (rw (behind-list each list e) (found .1)) in
-      placed (list .at) (found .0) next (behind-place each list e) (found .2) ∙ ap (weakFrom start) (sym whole)
+      let whole = listed-whole at count (drop at s) some each (got .0) v (found .0) (got .1) (rw (behind-list each list e) (found .1)) in
+      placed (list .at) (found .0) next (behind-place each list e) (found .2) ∙ ap (weakFrom at) (sym whole)
     where
-      placed : (i m : ℕ) (c : Cursor) → i ≡ start + 5 → c ≡ cursorAt (i + m) → Got (record { count = count; length = each; list = i }) c ≡ Got (listAt start count each) (cursorAt (start + (5 + m)))
-      placed i m c a b = rw (b, a, add-assoc start 5 m)
+      placed : (i m : ℕ) (c : Cursor) → i ≡ at + 2 → c ≡ cursorAt (i + m) → Got (listAt i count each) c ≡ Got (listAt (at + 2) count each) (cursorAt (at + (2 + m)))
+      placed i m c a b = rw (b, a, add-assoc at 2 m)
 
 -- ---- the field
+
+-- what was found behind n characters, as the code's answer from before them
+behind-from : (at n : ℕ) (o : Found Weak) → weakFrom at (behind n o) ≡ weakFrom (at + n) o
+behind-from at n (done r) = ap (λ (i : ℕ). Got (r .0) (cursorAt i)) (sym (add-assoc at n (r .1)))
+behind-from at n (refused q) = refl
 
 -- what the code's answers tell of it
 module _ (mark at : ℕ) (s : List ℕ) where
@@ -125,11 +130,12 @@ module _ (mark at : ℕ) (s : List ℕ) where
 
     -- with one the rest of it decides
     pub field-counted : (count : ℕ) (next : Cursor) → value.Got count next ≡ valueFrom (digits .at) (number 0 99 WeakList03 (drop (digits .at) s))
-        → weakField mark at (drop at s) ≡ listed at count (drop (next .at) s)
+        → weakFrom at (weakField mark at (drop at s)) ≡ weakFrom (next .at) (listed (next .at) count (drop (next .at) s))
     unfolding weakField
     field-counted count next e =
         let got = value-of-found (digits .at) (number 0 99 WeakList03 (drop (digits .at) s)) count next e in
         rw (mark-there at (marked mark (drop at s)) digits there .0, ← counted-there, got .1, drop-drop 3 at s, counted-behind count next e .1)
+        (behind-from at 3 (listed (at + 3) count (drop (at + 3) s)))
 
 -- ---- behind the code's answer
 
@@ -148,10 +154,10 @@ weak-bad at (refused p) q e = cc
 -- the three ways in which it is found: without its mark, with the count 00, with a list
 pub data Tells (mark at : ℕ) (cs : List ℕ) (w : Weak) (n : ℕ) : Type 0 where
   unmarked : marked mark cs ≡ false → w ≡ noneAt at → n ≡ 0 → Tells mark at cs w n
-  empty : marked mark cs ≡ true → number 0 99 WeakList03 (drop 1 cs) ≡ done (0, 2) → w ≡ noneAt at → n ≡ 3 → Tells mark at cs w n
+  empty : marked mark cs ≡ true → number 0 99 WeakList03 (drop 1 cs) ≡ done (0, 2) → w ≡ noneAt (at + 3) → n ≡ 3 → Tells mark at cs w n
   filled : (count each : ℕ) → marked mark cs ≡ true → number 0 99 WeakList03 (drop 1 cs) ≡ done (count, 2) → (count ≡ 0 → ⊥) → number 4 12 Field15 (drop 3 cs) ≡ done (each, 2)
       → run Digit WeakList03 WeakList03 (count * each) (drop 5 cs) ≡ done (count * each, count * each)
-      → w ≡ listAt at count each → n ≡ 5 + count * each → Tells mark at cs w n
+      → w ≡ listAt (at + 5) count each → n ≡ 5 + count * each → Tells mark at cs w n
 
 module _ (mark at : ℕ) (cs : List ℕ) (w : Weak) (n : ℕ) where
   -- the parts of what was found
@@ -168,6 +174,11 @@ module _ (mark at : ℕ) (cs : List ℕ) (w : Weak) (n : ℕ) where
   two : (low high : ℕ) (q : Refusal) (ds : List ℕ) (r : ℕ × ℕ) → number low high q ds ≡ done r → number low high q ds ≡ done (r .0, 2)
   two low high q ds r e = e ∙ ap (λ (m : ℕ). done (r .0, m)) (number-found low high q ds (r .0) (r .1) e .0)
 
+  -- what was found behind n characters
+  behind-found : (k : ℕ) (o : Found Weak) → behind k o ≡ done (w, n) → (m : ℕ) × (o ≡ done (w, m)) × (n ≡ k + m)
+  behind-found k (done r) e = (r .1, ap (λ (v : Weak). done (v, r .1)) (sym (found-weak (r .0) (k + r .1) e)), found-count (r .0) (k + r .1) e)
+  behind-found k (refused q) e = absurd (let z : _≡_ {A = ℕ} 0 1 = cc in omega arith)
+
   -- a field that was found was found in one of them
   pub weak-tells : weakField mark at cs ≡ done (w, n) → Tells mark at cs w n
   unfolding weakField listed
@@ -177,36 +188,43 @@ module _ (mark at : ℕ) (cs : List ℕ) (w : Weak) (n : ℕ) where
       digits count each = run Digit WeakList03 WeakList03 (count * each) (drop 2 (drop 3 cs))
 
       measured : ℕ → ℕ × ℕ → Found Weak
-      measured count each = andThen (digits count (each .0)) (λ r. done (listAt at count (each .0), 5 + r .1))
+      measured count each = andThen (digits count (each .0)) (λ r. done (listAt (at + 3 + 2) count (each .0), 2 + r .1))
 
-      counted : (count : ℕ) → marked mark cs ≡ true → number 0 99 WeakList03 (drop 1 cs) ≡ done (count, 2) → (b : Bool) → eqb count 0 ≡ b
-          → cond {A = Found Weak} b (done (noneAt at, 3)) (andThen (number 4 12 Field15 (drop 3 cs)) (measured count)) ≡ done (w, n) → Tells mark at cs w n
-      counted count h c true z e = empty h (c ∙ ap (λ (v : ℕ). done (v, 2)) (eqb-true count 0 z)) (found-weak (noneAt at) 3 e) (found-count (noneAt at) 3 e)
-      counted count h c false z e =
-          let t = then-done (number 4 12 Field15 (drop 3 cs)) (measured count) (w, n) e in
+      -- behind the count, where it takes m characters
+      counted : (count : ℕ) → marked mark cs ≡ true → number 0 99 WeakList03 (drop 1 cs) ≡ done (count, 2) → (m : ℕ) → n ≡ 3 + m → (b : Bool) → eqb count 0 ≡ b
+          → cond {A = Found Weak} b (done (noneAt (at + 3), 0)) (andThen (number 4 12 Field15 (drop 3 cs)) (measured count)) ≡ done (w, m) → Tells mark at cs w n
+      counted count h c m l true z e =
+          let v = value-of e in
+          empty h (c ∙ ap (λ (v : ℕ). done (v, 2)) (eqb-true count 0 z)) (sym (ap (λ (r : Weak × ℕ). r .0) v)) (l ∙ ap (λ (r : Weak × ℕ). 3 + r .1) (sym v))
+      counted count h c m l false z e =
+          let t = then-done (number 4 12 Field15 (drop 3 cs)) (measured count) (w, m) e in
           let each = t .0 .0 in
-          let r = then-done (digits count each) (λ (r : ℕ × ℕ). done (listAt at count each, 5 + r .1)) (w, n) (t .2) in
+          let r = then-done (digits count each) (λ (r : ℕ × ℕ). done (listAt (at + 3 + 2) count each, 2 + r .1)) (w, m) (t .2) in
           let f = run-found Digit WeakList03 WeakList03 (count * each) (drop 2 (drop 3 cs)) (r .0 .0) (r .0 .1) (r .1) in
+          let v = value-of (r .2) in
+          let taken : 2 + r .0 .1 ≡ m = ap (λ (r : Weak × ℕ). r .1) v in
+          let place : at + 3 + 2 ≡ at + 5 = omega arith in
           filled count each h c (eqb-false count 0 z) (two 4 12 Field15 (drop 3 cs) (t .0) (t .1))
           (run-whole Digit WeakList03 WeakList03 (count * each) (drop 5 cs) (rw (drop-drop 2 3 cs) at (f .2)) (rw (drop-drop 2 3 cs) at (f .3)))
-          (found-weak (listAt at count each) (5 + r .0 .1) (r .2))
-          (found-count (listAt at count each) (5 + r .0 .1) (r .2) ∙ ap (λ (m : ℕ). 5 + m) (f .1))
+          (sym (ap (λ (r : Weak × ℕ). r .0) v) ∙ ap (λ (i : ℕ). listAt i count each) place)
+          (omega (arith, l, taken, f .1))
 
       go : (b : Bool) → marked mark cs ≡ b
-          → cond {A = Found Weak} b (andThen (number 0 99 WeakList03 (drop 1 cs)) (λ count. listed at (count .0) (drop 3 cs))) (done (noneAt at, 0)) ≡ done (w, n) → Tells mark at cs w n
+          → cond {A = Found Weak} b (andThen (number 0 99 WeakList03 (drop 1 cs)) (λ count. behind 3 (listed (at + 3) (count .0) (drop 3 cs)))) (done (noneAt at, 0)) ≡ done (w, n) → Tells mark at cs w n
       go false h e = unmarked h (found-weak (noneAt at) 0 e) (found-count (noneAt at) 0 e)
       go true h e =
-          let t = then-done (number 0 99 WeakList03 (drop 1 cs)) (λ (count : ℕ × ℕ). listed at (count .0) (drop 3 cs)) (w, n) e in
-          counted (t .0 .0) h (two 0 99 WeakList03 (drop 1 cs) (t .0) (t .1)) (eqb (t .0 .0) 0) refl (t .2)
+          let t = then-done (number 0 99 WeakList03 (drop 1 cs)) (λ (count : ℕ × ℕ). behind 3 (listed (at + 3) (count .0) (drop 3 cs))) (w, n) e in
+          let b = behind-found 3 (listed (at + 3) (t .0 .0) (drop 3 cs)) (t .2) in
+          counted (t .0 .0) h (two 0 99 WeakList03 (drop 1 cs) (t .0) (t .1)) (b .0) (b .2) (eqb (t .0 .0) 0) refl (b .1)
 
   -- and the field is found in each of them
   pub tells-weak : Tells mark at cs w n → weakField mark at cs ≡ done (w, n)
   unfolding weakField
   tells-weak (unmarked h e l) = rw h (found-both (noneAt at) 0 e l)
-  tells-weak (empty h c e l) = rw (h, c, listed-none at 0 (drop 3 cs) refl) (found-both (noneAt at) 3 e l)
+  tells-weak (empty h c e l) = rw (h, c, listed-none (at + 3) 0 (drop 3 cs) refl) (found-both (noneAt (at + 3)) 3 e l)
   tells-weak (filled count each h c some m r e l) =
-      rw (h, c, listed-whole at count (drop 3 cs) some each 2 (count * each) (count * each) m (rw (drop-drop 2 3 cs) r))
-      (found-both (listAt at count each) (5 + count * each) e l)
+      rw (h, c, listed-whole (at + 3) count (drop 3 cs) some each 2 (count * each) (count * each) m (rw (drop-drop 2 3 cs) r))
+      (found-both (listAt (at + 3 + 2) count each) (3 + (2 + count * each)) (e ∙ ap (λ (i : ℕ). listAt i count each) (let place : at + 5 ≡ at + 3 + 2 = omega arith in place)) (omega (arith, l)))
 
   -- it goes onward, and not past the end
   pub weak-onward : weakField mark at cs ≡ done (w, n) → n ≤ length cs
@@ -236,7 +254,7 @@ weak-lies mark at s w n e h = go (weak-tells mark at (drop at s) w n e)
 
     go : Tells mark at (drop at s) w n → Lies w s
     go (unmarked t e l) = rw e (record { short = omega arith; few = omega arith; inside = omega arith; digits = no-digits (drop at s) })
-    go (empty t c e l) = rw e (record { short = omega arith; few = omega arith; inside = omega arith; digits = no-digits (drop at s) })
+    go (empty t c e l) = rw e (record { short = omega arith; few = omega arith; inside = omega (arith, onward, l); digits = no-digits (drop (at + 3) s) })
     go (filled count each t c some m r e l) =
         let high = number-found 4 12 Field15 (drop 3 (drop at s)) each 2 m .3 in
         let most = number-found 0 99 WeakList03 (drop 1 (drop at s)) count 2 c .3 in

@@ -9,28 +9,26 @@ use Rattle.alphabet.specs.Alphabet.{valueOf}
 use Rattle.alphabet.specs.declared.Class.the-variants.{Digit}
 use Rattle.numbers.specs.Numbers.{done, andThen}
 use Rattle.numbers.specs.declared.Refusal.the-variants.{WeakList03, Field15}
-use Rattle.fields.specs.Fields.{Found, run, number, marked}
+use Rattle.fields.specs.Fields.{Found, run, number, marked, behind}
 use Rattle.weak.specs.declared.Weak.{Weak}
 
 -- no weak PINs
 abbrev pub noneAt : ℕ → Weak
 noneAt at = record { count = 0; length = 0; list = at }
 
--- behind the mark and the count: nothing where the count is 00; else the length, 04 to 12 (15), and as many digits as count times
--- length (03). What it takes is counted from the beginning of the field, with the three characters of mark and count; the list stands
--- five characters behind that beginning
+-- behind the count: nothing where it is 00; else the length, 04 to 12 (15), and as many digits as count times length (03)
 unfoldable pub listed : ℕ → ℕ → List ℕ → Found Weak
 listed at count cs =
-    cond (eqb count 0) (done (noneAt at, 3))
+    cond (eqb count 0) (done (noneAt at, 0))
     (andThen (number 4 12 Field15 cs)
     (λ each. andThen (run Digit WeakList03 WeakList03 (count * each .0) (drop 2 cs))
-    (λ digits. done (record { count = count; length = each .0; list = at + 5 }, 5 + digits .1))))
+    (λ digits. done (record { count = count; length = each .0; list = at + 2 }, 2 + digits .1))))
 
--- the field that begins at a place, over the characters from there: "weak PIN count not two digits" is 03
+-- the field that begins at a place: "weak PIN count not two digits" is 03; the mark and the count are three characters
 unfoldable pub weakField : ℕ → ℕ → List ℕ → Found Weak
 weakField mark at cs =
     cond (marked mark cs)
-    (andThen (number 0 99 WeakList03 (drop 1 cs)) (λ count. listed at (count .0) (drop 3 cs)))
+    (andThen (number 0 99 WeakList03 (drop 1 cs)) (λ count. behind 3 (listed (at + 3) (count .0) (drop 3 cs))))
     (done (noneAt at, 0))
 
 -- the digits of the weak PINs, one after the other

@@ -1,6 +1,6 @@
 // The weak PINs of a command: their field, and whether a PIN is one of them.
 ghost use mathlib.Core.Path.{_≡_};
-ghost use Prim.Native.Nat.{_+_, _≤_};
+ghost use Prim.Native.Nat.{_≤_};
 ghost use lib.ListN.{drop};
 ghost use Rattle.nibbles.specs.Nibbles.{row};
 ghost use Rattle.weak.specs.Weak.{noneAt, listed, weakField, isOn, weakPins};
@@ -46,13 +46,13 @@ fn none_at(start: usize) -> Weak
     }
 }
 
-// The length and the list behind a count; `start` is where the field begins.
-fn list_behind(start: usize, count: usize, cursor: Cursor, command: &[u8]) -> WeakRead
-    requires { ⌜ (count ≤ 99) × (cursor .at ≡ start + 3) ⌝ }
-    ensures { λ r. ⌜ r ≡ weakFrom start (listed start count (drop (cursor .at) (now (command .entry)))) ⌝ }
+// The length and the list behind a count.
+fn list_behind(count: usize, cursor: Cursor, command: &[u8]) -> WeakRead
+    requires { ⌜ count ≤ 99 ⌝ }
+    ensures { λ r. ⌜ r ≡ weakFrom (cursor .at) (listed (cursor .at) count (drop (cursor .at) (now (command .entry)))) ⌝ }
 {
     if count == 0 {
-        return WeakRead::Got(none_at(start), cursor);
+        return WeakRead::Got(none_at(cursor.at), cursor);
     }
     let measured = cursor.number(command, 4, 12, Refusal::Field15);
     let Value::Got(length, list) = measured else {
@@ -75,16 +75,15 @@ fn list_behind(start: usize, count: usize, cursor: Cursor, command: &[u8]) -> We
 pub fn weak_field(cursor: Cursor, command: &[u8], mark: u8) -> WeakRead
     ensures { λ r. ⌜ r ≡ weakFrom (cursor .at) (weakField mark (cursor .at) (drop (cursor .at) (now (command .entry)))) ⌝ }
 {
-    let start = cursor.at;
     let marked = cursor.mark(command, mark);
     let Mark::Behind(digits) = marked else {
-        return WeakRead::Got(none_at(start), cursor);
+        return WeakRead::Got(none_at(cursor.at), cursor);
     };
     let counted = digits.number(command, 0, 99, Refusal::WeakList03);
     let Value::Got(count, next) = counted else {
         return WeakRead::Bad(Refusal::WeakList03);
     };
-    list_behind(start, count, next, command)
+    list_behind(count, next, command)
 }
 
 // Whether a text stands at the place of one of the weak PINs.

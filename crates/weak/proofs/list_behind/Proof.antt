@@ -1,12 +1,10 @@
 -- `weak::list_behind` meets its contract.
 -- Assumes nothing.
-use Prim.Native.Nat.{ℕ}
-use native.Mathlib.Nat.{mul-le-mul}
+use native.Mathlib.Nat.{mul-le-mul, add-zero}
 use native.Mathlib.Omega.{arith}
-use mathlib.Core.Path.{sym, ap₂, _∙_}
+use mathlib.Core.Path.{sym, ap, _∙_}
 use borrow.Author.Needs.{needs}
 use Rattle.numbers.specs.declared.Refusal.the-variants.{Field15}
-use Rattle.fields.specs.Answers.{cursorAt}
 use Rattle.fields.proofs.Laws.{number-read}
 use lib.ListN.{drop}
 use Rattle.weak.specs.declared.Weak.{Weak}
@@ -21,8 +19,8 @@ none-at-requires c κs = search needs
 returns : tie.Need-returns
 returns c =
     let a = c .before .before .before .args in
-    rw (listed-none (a .start) (a .count) (drop (a .cursor .at) (a .command .now)) (c .before .if1 .taken))
-    (ap₂ (λ (w : Weak) (i : ℕ). Got w (cursorAt i)) (c .none-at .ensures) (c .before .before .before .pre .1))
+    rw (listed-none (a .cursor .at) (a .count) (drop (a .cursor .at) (a .command .now)) (c .before .if1 .taken), add-zero (a .cursor .at))
+    (ap (λ (w : Weak). Got w (a .cursor)) (c .none-at .ensures))
 
 number-requires : tie.Need-number-requires
 number-requires c κs = search needs
@@ -36,15 +34,14 @@ enum-told c = search needs
 returns-2 : tie.Need-returns-2
 returns-2 c =
     let a = c .before .before .before .before .before .args in
-    let place = c .before .before .before .before .before .pre .1 in
     let some = c .before .before .before .if1 .left in
-    behind-unmeasured (a .command .now) (a .start) (a .count) (a .cursor .at) place some _ (sym (c .enum-told .given .1) ∙ c .before .before .number .ensures)
+    behind-unmeasured (a .command .now) (a .count) (a .cursor .at) some _ (sym (c .enum-told .given .1) ∙ c .before .before .number .ensures)
 
 mul-run : tie.Need-mul-run
 mul-run c =
     let a = c .before .before .before .before .before .before .args in
     let each = number-read (a .command .now) (a .cursor .at) _ _ 4 12 Field15 (sym (c .before .measured .given .1) ∙ c .before .before .before .number .ensures) .4 in
-    let most = mul-le-mul (c .before .before .before .before .before .before .pre .0) each in
+    let most = mul-le-mul (c .before .before .before .before .before .before .pre) each in
     omega arith
 
 run-requires : tie.Need-run-requires
@@ -59,19 +56,17 @@ enum-told-2 c = search needs
 returns-3 : tie.Need-returns-3
 returns-3 c =
     let a = c .before .before .before .before .before .before .before .before .before .args in
-    let place = c .before .before .before .before .before .before .before .before .before .pre .1 in
     let some = c .before .before .before .before .before .before .before .if1 .left in
     let each = sym (c .before .before .before .before .measured .given .1) ∙ c .before .before .before .before .before .before .number .ensures in
-    behind-short (a .command .now) (a .start) (a .count) (a .cursor .at) place some _ _ _ each (sym (c .enum-told2 .given .1) ∙ c .before .before .run .ensures)
+    behind-short (a .command .now) (a .count) (a .cursor .at) some _ _ _ each (sym (c .enum-told2 .given .1) ∙ c .before .before .run .ensures)
 
 returns-4 : tie.Need-returns-4
 returns-4 c =
     let a = c .before .before .before .before .before .before .before .before .before .before .args in
-    let place = c .before .before .before .before .before .before .before .before .before .before .pre .1 in
     let some = c .before .before .before .before .before .before .before .before .if1 .left in
     let each = sym (c .before .before .before .before .before .measured .given .1) ∙ c .before .before .before .before .before .before .before .number .ensures in
     let digits = sym (c .before .digits .given .1) ∙ c .before .before .before .run .ensures in
-    behind-whole (a .command .now) (a .start) (a .count) (a .cursor .at) place some _ _ _ _ each digits
+    behind-whole (a .command .now) (a .count) (a .cursor .at) some _ _ _ _ each digits
 
 pub list-behind-spec : {M : Type 1} → statement M
 list-behind-spec =

@@ -2,7 +2,6 @@
 -- Assumes nothing.
 use mathlib.Core.Path.{sym, ap, _∙_}
 use borrow.Author.Needs.{needs}
-use Rattle.weak.specs.Answers.{weakFrom}
 use Rattle.weak.specs.declared.Weak.{Weak}
 use Rattle.weak.specs.declared.WeakRead.the-variants.{Got}
 use Rattle.weak.proofs.Laws.{field-absent, field-uncounted, counted-behind, field-counted}
@@ -46,14 +45,14 @@ list-behind-requires : tie.Need-list-behind-requires
 list-behind-requires c κs =
     let a = c .before .before .before .before .before .before .before .before .before .args in
     let there = sym (c .before .before .before .before .before .marked .given .1) ∙ c .before .before .before .before .before .before .before .mark .ensures in
-    counted-behind (a .mark) (a .cursor .at) (a .command .now) _ there _ _ (sym (c .before .counted .given .1) ∙ c .before .before .before .number .ensures)
+    counted-behind (a .mark) (a .cursor .at) (a .command .now) _ there _ _ (sym (c .before .counted .given .1) ∙ c .before .before .before .number .ensures) .0
 
 returns-3 : tie.Need-returns-3
 returns-3 c =
     let a = c .before .before .before .before .before .before .before .before .before .before .args in
     let there = sym (c .before .before .before .before .before .before .marked .given .1) ∙ c .before .before .before .before .before .before .before .before .mark .ensures in
     let counted = field-counted (a .mark) (a .cursor .at) (a .command .now) _ there _ _ (sym (c .before .before .counted .given .1) ∙ c .before .before .before .before .number .ensures) in
-    c .list-behind .ensures ∙ ap (weakFrom (a .cursor .at)) (sym counted)
+    c .list-behind .ensures ∙ sym counted
 
 pub weak-field-spec : {M : Type 1} → statement M
 weak-field-spec =
