@@ -1,4 +1,4 @@
--- The stages of a command: runs of fields that commands share. Each is told its first field's number.
+-- The stages of a command: runs of fields that commands share. Each is told its first field's number, `which`.
 use Prim.Native.Nat.{ℕ, _+_}
 use mathlib.Core.List.{List, map}
 use mathlib.Core.Bool.{Bool, not, _||_, cond}
@@ -26,11 +26,11 @@ use Rattle.stages.specs.declared.Offsetting.{Offsetting}
 
 -- "1. Key type"; "2. PIN key, then 3. PVK"
 unfoldable pub keys : ℕ → Use → Use → List ℕ → ℕ → Stage Keys
-keys first use₁ use₂ s at₁ =
-    field first keyType s at₁
-    (λ letters at₂. field (first + 1) (key letters use₁) s at₂
-    (λ lmk₁ at₃. field (first + 2) (key letters use₂) s at₃
-    (λ lmk₂ next. read (record { first = lmk₁; second = lmk₂; field = first + 2; place = at₃ }) next)))
+keys which use₁ use₂ s at₁ =
+    field which keyType s at₁
+    (λ letters at₂. field (which + 1) (key letters use₁) s at₂
+    (λ lmk₁ at₃. field (which + 2) (key letters use₂) s at₃
+    (λ lmk₂ next. read (record { first = lmk₁; second = lmk₂; field = which + 2; place = at₃ }) next)))
 
 -- ---- Sealed: PIN block and format
 
@@ -47,9 +47,9 @@ formatField restricted cs =
 
 -- "4. PIN block, 16 hex"; "5. Format"
 unfoldable pub sealed : ℕ → Bool → List ℕ → ℕ → Stage Sealed
-sealed first restricted s block =
-    field first (run CapitalHex Field15 Field15 16) s block
-    (λ _ formatAt. field (first + 1) (formatField restricted) s formatAt
+sealed which restricted s block =
+    field which (run CapitalHex Field15 Field15 16) s block
+    (λ _ formatAt. field (which + 1) (formatField restricted) s formatAt
     (λ f next. read (record { block = block; format = f }) next))
 
 -- ---- Offsetting: check length, account, decimalisation table, validation data
@@ -67,11 +67,11 @@ validationField cs =
 -- "6. Check length, 04 to 12"; "7. Account, 12 digits"; "8. Decimalisation table, 16 digits. Characters missing at the end of the
 -- command give 15", a non-digit 25; "9. Validation data"
 unfoldable pub offsetting : ℕ → List ℕ → ℕ → Stage Offsetting
-offsetting first s at =
-    field first (number 4 12 Field15) s at
-    (λ check accountAt. field (first + 1) (run Digit Field15 Field15 12) s accountAt
-    (λ _ tableAt. field (first + 2) (run Digit Field15 Table25 16) s tableAt
-    (λ _ dataAt. field (first + 3) validationField s dataAt
+offsetting which s at =
+    field which (number 4 12 Field15) s at
+    (λ check accountAt. field (which + 1) (run Digit Field15 Field15 12) s accountAt
+    (λ _ tableAt. field (which + 2) (run Digit Field15 Table25 16) s tableAt
+    (λ _ dataAt. field (which + 3) validationField s dataAt
     (λ shape next. read (record { check = check; account = accountAt; table = tableAt; validation = dataAt; shape = shape }) next))))
 
 -- n characters from a place
@@ -92,4 +92,4 @@ validationIn s o = part s (o .validation) (shapeWidth (o .shape))
 
 -- "10. Optional ;, weak count, …": the mark is the command's
 unfoldable pub weak : ℕ → ℕ → List ℕ → ℕ → Stage Weak
-weak first mark s at = field first (weakField mark at) s at (λ w next. read w next)
+weak which mark s at = field which (weakField mark at) s at (λ w next. read w next)

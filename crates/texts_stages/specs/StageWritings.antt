@@ -19,15 +19,15 @@ use Rattle.texts_stages.specs.StageTexts.{KeyFields, keysText, AreKeys, 
 
 -- of keys: their LMK ids, and where the second begins
 abbrev pub keysPlaced : ℕ → ℕ → KeyFields → Keys
-keysPlaced first at k = record {
+keysPlaced which at k = record {
   first = lmkOf (k .first);
   second = lmkOf (k .second);
-  field = first + 2;
+  field = which + 2;
   place = at + length (typeText (k .type)) + length (keyText (k .first));
 }
 
 abbrev pub keysAt : ℕ → Use → Use → ℕ → Writing Keys
-keysAt first use₁ use₂ at = record { Part = KeyFields; fine = λ k _. AreKeys (ruleFor use₁) (ruleFor use₂) k; text = keysText; value = keysPlaced first at }
+keysAt which use₁ use₂ at = record { Part = KeyFields; fine = λ k _. AreKeys (ruleFor use₁) (ruleFor use₂) k; text = keysText; value = keysPlaced which at }
 
 -- of block and format: where the block begins, and the format
 abbrev pub sealedPlaced : ℕ → SealedFields → Sealed
