@@ -13,12 +13,12 @@ use Rattle.numbers.specs.Numbers.{done, andThen}
 use Rattle.numbers.specs.declared.Refusal.the-variants.{Weak86}
 use Rattle.numbers.proofs.Laws.{then-done, passed, value-of}
 use Rattle.settings.specs.declared.Settings.{Settings}
-use Rattle.pins.specs.Pins.{digit}
+use Rattle.pins.specs.Pins.{digit, lastOf}
 use Rattle.pins.proofs.Laws.{digits-below}
 use Rattle.blocks.proofs.Laws.{Sixteen, sixteen-bytes}
 use Rattle.validation.specs.Validation.{validationRow}
 use Rattle.validation.proofs.Laws.{row-sixteen}
-use Rattle.ibm3624.specs.Ibm3624.{covers, lastOf, covered, offsetOf, moduloTen}
+use Rattle.ibm3624.specs.Ibm3624.{covers, covered, offsetOf, moduloTen}
 use Rattle.ibm3624.proofs.Laws.{differences-length, reduced-below}
 use Rattle.offsets.specs.Offsets.{pinWithNatural, offsetFor}
 use Rattle.offsets.proofs.Laws.{with-natural-fit}

@@ -6,7 +6,7 @@ use mathlib.Core.Path.{_≡_, refl, sym, ap, _∙_, subst}
 use mathlib.Core.Logic.{_⊎_, inl, inr}
 use mathlib.Core.List.{List, [], _∷_, map}
 use mathlib.Core.Bool.{Bool, true, false, not, cond, false≢true, and-eq-true-iff}
-use lib.ListN.{length, take, drop, length-map, length-append}
+use lib.ListN.{length, take, drop, length-append}
 use lib.Seq.{length-take-le}
 use lib.Dec.{leb}
 use borrow.Author.Tests.{le-leb, not-true}
@@ -55,8 +55,7 @@ pub asks-parts : AsksParts
 unfolding asking askBy bkAsk
 asks-parts settings room header p roomy h g =
     let stand = sent-stand settings header p h g .inputs in
-    let long : length (accountDigits p) ≡ 12 = length-map (p .inputs .account) valueOf ∙ g .inputs .account .0 in
-    rw (le-leb 8 room roomy, sent-framed settings header p h g, sent-coded settings header p h g, sent-read settings header p h g, stand .account, stand .validation, row-of-parts (accountDigits p) (p .inputs .validation) long (g .inputs .validation))
+    rw (le-leb 8 room roomy, sent-framed settings header p h g, sent-coded settings header p h g, sent-read settings header p h g, stand .account, stand .validation, row-of-parts (accountDigits p) (p .inputs .validation) (g .inputs .validation))
 
 asked-only : (settings : Settings) (s : List ℕ) (room : ℕ) → 8 ≤ room → quietly (asked settings s room) .number ≡ 0 → PapersCommand settings s
 unfolding asking askBy bkAsk

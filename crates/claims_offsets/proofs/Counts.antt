@@ -15,11 +15,11 @@ use Rattle.numbers.specs.Numbers.{Outcome, done, unless}
 use Rattle.numbers.specs.declared.Refusal.the-variants.{Field15, Check81, Room901}
 use Rattle.numbers.proofs.Laws.{then-done, passed, value-of}
 use Rattle.formats.specs.Formats.{codeOf, formatOf}
-use Rattle.pins.specs.Pins.{accountOf, accountField, sized}
+use Rattle.pins.specs.Pins.{lastOf, accountOf, accountField, sized}
 use Rattle.pins.proofs.Laws.{sized-done, account-done}
 use Rattle.blocks.specs.Blocks.{readRow}
 use Rattle.blocks.proofs.Laws.{Blocky, read-pinned, sixteen-bytes, bytes-sixteen}
-use Rattle.ibm3624.specs.Ibm3624.{tableSized, tableOf, naturalPin, checkLength, covers, lastOf, differences, covered, moduloTen, offsetOf, offsetText}
+use Rattle.ibm3624.specs.Ibm3624.{tableSized, tableOf, naturalPin, checkLength, covers, differences, covered, moduloTen, offsetOf, offsetText}
 use Rattle.ibm3624.proofs.Laws.{covered-many, natural-done, natural-long, text-length}
 use Rattle.offsets.specs.Offsets.{given, pinWithNatural, pinAndNatural, digitsGiven, offsetFor, offsetJudged, digitsJudged, offsetMade, offsetOfDigits, differencesOf}
 use Rattle.offsets.proofs.Laws.{digits-alike, covers-within}

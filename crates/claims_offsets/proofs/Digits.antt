@@ -13,7 +13,8 @@ use Rattle.nibbles.proofs.Lists.{Below, below-drop}
 use Rattle.numbers.specs.Numbers.{done, unless}
 use Rattle.numbers.specs.declared.Refusal.the-variants.{Room901}
 use Rattle.numbers.proofs.Laws.{passed, then-done, value-of}
-use Rattle.ibm3624.specs.Ibm3624.{covers, lastOf, difference, differences, covered, moduloTen}
+use Rattle.pins.specs.Pins.{lastOf}
+use Rattle.ibm3624.specs.Ibm3624.{covers, difference, differences, covered, moduloTen}
 use Rattle.ibm3624.proofs.Signed.{at-digits}
 use Rattle.offsets.specs.Offsets.{digitsGiven, digitsJudged, differencesOf}
 use Rattle.offsets.proofs.Laws.{digits-alike}

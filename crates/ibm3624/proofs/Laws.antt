@@ -15,14 +15,14 @@ use Rattle.nibbles.proofs.Lists.{Below, map-at, map-below, below-at}
 use Rattle.nibbles.proofs.Rows.{row-length, row-at-lt, row-at-less, row-word}
 use Rattle.nibbles.proofs.Runs.{every-below, inside-low, inside-high}
 use Rattle.alphabet.specs.Alphabet.{characters, allOf, valueOf}
-use Rattle.ibm3624.specs.Ibm3624.{decimal, naturalOf, lastOf, difference, differences, moduloTen, covered, offsetOf, offsetText, tableSized, tableOf, naturalPin}
+use Rattle.ibm3624.specs.Ibm3624.{decimal, naturalOf, difference, differences, moduloTen, covered, offsetOf, offsetText, tableSized, tableOf, naturalPin}
 use Rattle.alphabet.specs.declared.Class.the-variants.{Digit}
 use Rattle.alphabet.proofs.Laws.{value-below}
 use Rattle.numbers.specs.Numbers.{done, refused, unless}
 use Rattle.numbers.specs.declared.Refusal.{Refusal}
 use Rattle.numbers.specs.declared.Refusal.the-variants.{Field15, Length24, Table25, Room901}
 use Rattle.numbers.proofs.Laws.{passed, failed, then-done, value-of}
-use Rattle.pins.specs.Pins.{pinLength, sized}
+use Rattle.pins.specs.Pins.{pinLength, lastOf, sized}
 use Rattle.pins.specs.Answers.{rowOf}
 use Rattle.pins.specs.declared.Row.{Row}
 use Rattle.pins.specs.declared.Row.the-variants.{Held, Refused}

@@ -10,7 +10,7 @@ use Rattle.alphabet.specs.Alphabet.{admits, allOf, valueOf, characters}
 use Rattle.alphabet.specs.declared.Class.the-variants.{Digit}
 use Rattle.numbers.specs.Numbers.{Outcome, done, andThen, unless}
 use Rattle.numbers.specs.declared.Refusal.the-variants.{Field15, Length24, Table25, Check81, Room901}
-use Rattle.pins.specs.Pins.{digitsHanded, pinLength, sized}
+use Rattle.pins.specs.Pins.{digitsHanded, pinLength, lastOf, sized}
 
 -- ---- the natural PIN
 
@@ -54,10 +54,6 @@ checkLength check = unless Field15 (within 4 12 check) check
 abbrev pub covers : Bool → ℕ → ℕ → Outcome ℕ
 covers variable check n = cond variable (done n) (unless Check81 (leb check n) check)
 
--- "The offset covers the last m digits"
-abbrev pub lastOf : ℕ → List ℕ → List ℕ
-lastOf m ds = drop (length ds - m) ds
-
 -- ---- differences and offset
 
 -- "PIN digit less natural digit", "unreduced, from -9 to 9"
@@ -75,7 +71,7 @@ abbrev pub moduloTen : ℤ → ℕ
 moduloTen (pos n) = n % 10
 moduloTen (negsuc n) = 9 - n % 10
 
--- the differences over the covered digits
+-- "The offset covers the last m digits": the differences over them
 abbrev pub covered : ℕ → List ℕ → List ℕ → List ℤ
 covered m pin natural = differences (lastOf m pin) (lastOf m natural)
 

@@ -2,7 +2,7 @@
 use Prim.Native.Nat.{ℕ, _-_}
 use mathlib.Core.List.{List, _∷_, _++_, map}
 use mathlib.Core.Bool.{Bool, _&&_}
-use lib.ListN.{length, replicate}
+use lib.ListN.{length, drop, replicate}
 use lib.Dec.{eqb}
 use Rattle.nibbles.specs.Nibbles.{nibs, within, every}
 use Rattle.alphabet.specs.Alphabet.{allOf, valueOf}
@@ -13,6 +13,10 @@ use Rattle.numbers.specs.declared.Refusal.the-variants.{Field15, Block20, Lengt
 -- a digit is 0 to 9
 abbrev pub digit : ℕ → Bool
 digit = within 0 9
+
+-- the last k digits: an offset covers the last m, `N` stands for the last five of an account, a PVV's input begins with the last 11
+abbrev pub lastOf : ℕ → List ℕ → List ℕ
+lastOf k ds = drop (length ds - k) ds
 
 -- "PIN length outside 4 to 12" is 24
 abbrev pub pinLength : ℕ → Outcome ℕ

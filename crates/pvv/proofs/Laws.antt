@@ -26,7 +26,7 @@ use Rattle.numbers.specs.Promise.{Does, quietly}
 use Rattle.numbers.specs.declared.Reply.{Reply}
 use Rattle.numbers.proofs.Laws.{then-done, passed, failed, value-of, does-as}
 use Rattle.formats.specs.Formats.{codeOf, formatOf}
-use Rattle.pins.specs.Pins.{accountOf, accountField, sized}
+use Rattle.pins.specs.Pins.{lastOf, accountOf, accountField, sized}
 use Rattle.pins.specs.Answers.{pinOf, rowOf}
 use Rattle.pins.specs.declared.Pin.{Pin}
 use Rattle.pins.specs.declared.Row.{Row}
@@ -216,20 +216,21 @@ unfolding inputRow word
 input-word account index pin behind e =
     let digits = drop 1 (row 12 account) in
     let l : length digits ≡ 11 = length-drop 1 (row 12 account) ∙ ap (λ (n : ℕ). n - 1) (row-length 12 account) in
-    sym (word-append digits (index ∷ take 4 (row 16 pin)) ∙ ap₂ (λ (n w : ℕ). w * 16 ^ n + word digits) l (sym e) ∙ ap (λ (ns : List ℕ). behind * 16 ^ 11 + word (drop 1 ns)) (sym (row-take 12 16 account (lit≤ tt))))
+    sym (ap (λ (n : ℕ). word (drop (n - 11) (row 12 account) ++ (index ∷ take 4 (row 16 pin)))) (row-length 12 account)
+    ∙ word-append digits (index ∷ take 4 (row 16 pin)) ∙ ap₂ (λ (n w : ℕ). w * 16 ^ n + word digits) l (sym e) ∙ ap (λ (ns : List ℕ). behind * 16 ^ 11 + word (drop 1 ns)) (sym (row-take 12 16 account (lit≤ tt))))
 
 -- the PIN's first four are those of the word that holds it
 pub input-pin : (account ds : List ℕ) (index : ℕ) → Pinned ds → inputRow account index (row 16 (word ds)) ≡ inputRow account index ds
 unfolding inputRow
 input-pin account ds index p =
-    ap (λ (l : List ℕ). drop 1 account ++ (index ∷ l))
+    ap (λ (l : List ℕ). lastOf 11 account ++ (index ∷ l))
     (row-take 4 16 (word ds) (lit≤ tt) ∙ sym (row-take 4 (length ds) (word ds) (p .long)) ∙ ap (take 4) (pin-row ds p))
 
 pub input-sixteen : (account ds : List ℕ) (index : ℕ) → length account ≡ 12 → Below 16 account → index ≤ 6 → Pinned ds → Sixteen (inputRow account index ds)
 unfolding inputRow
 input-sixteen account ds index l b k p = record {
-  long = length-append (drop 1 account) (index ∷ take 4 ds) ∙ (let m = length-drop 1 account in let n = length-take-le 4 ds (p .long) in omega arith);
-  nibbles = below-append 16 (drop 1 account) (index ∷ take 4 ds) (below-drop 16 1 account b) (omega arith, below-take 16 4 ds (below-weaken 10 16 ds (lit≤ tt) (p .digits)));
+  long = length-append (lastOf 11 account) (index ∷ take 4 ds) ∙ (let m = length-drop (length account - 11) account in let n = length-take-le 4 ds (p .long) in omega arith);
+  nibbles = below-append 16 (lastOf 11 account) (index ∷ take 4 ds) (below-drop 16 (length account - 11) account b) (omega arith, below-take 16 4 ds (below-weaken 10 16 ds (lit≤ tt) (p .digits)));
 }
 
 -- the test on the key index

@@ -2,7 +2,7 @@
 use Prim.Native.Nat.{ℕ, _-_}
 use mathlib.Core.List.{List, [], _∷_, _++_, map}
 use mathlib.Core.Bool.{Bool, _&&_, cond}
-use lib.ListN.{length, take, drop}
+use lib.ListN.{length, take}
 use lib.Dec.{leb, eqb}
 use Rattle.nibbles.specs.Nibbles.{packs, within, same}
 use Rattle.alphabet.specs.Alphabet.{allOf, valueOf, characters}
@@ -10,7 +10,7 @@ use Rattle.alphabet.specs.declared.Class.the-variants.{Digit}
 use Rattle.numbers.specs.Numbers.{Outcome, done, andThen, unless}
 use Rattle.numbers.specs.declared.Refusal.the-variants.{Unverified01, Field15, Room901}
 use Rattle.formats.specs.Formats.{codeOf, formatOf, blockWidth}
-use Rattle.pins.specs.Pins.{digit, accountOf, accountField, sized}
+use Rattle.pins.specs.Pins.{digit, lastOf, accountOf, accountField, sized}
 use Rattle.blocks.specs.Blocks.{readRow}
 
 -- those that pass the test, in their order
@@ -25,7 +25,7 @@ pvvOf ns = take 4 (those digit ns ++ map (λ n. n - 10) (those (within 10 15) ns
 
 -- "the last 11 account digits, the key index (0 to 6, else 15) and the first four PIN digits": the digits, where the index is judged
 unfoldable pub inputRow : List ℕ → ℕ → List ℕ → List ℕ
-inputRow account index pin = drop 1 account ++ (index ∷ take 4 pin)
+inputRow account index pin = lastOf 11 account ++ (index ∷ take 4 pin)
 
 -- "the key index (0 to 6, else 15)"
 abbrev pub keyIndex : ℕ → Outcome ℕ

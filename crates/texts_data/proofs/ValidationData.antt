@@ -18,6 +18,7 @@ use Rattle.alphabet.specs.declared.Class.the-variants.{CapitalHex}
 use Rattle.numbers.specs.Numbers.{done, andThen, unless}
 use Rattle.numbers.specs.declared.Refusal.the-variants.{Field15}
 use Rattle.numbers.proofs.Laws.{then-done, passed}
+use Rattle.pins.specs.Pins.{lastOf}
 use Rattle.validation.specs.Validation.{hexEnd, isTemplate, isWhole, isValidation, validationRow}
 use Rattle.validation.specs.Answers.{shapeOf}
 use Rattle.validation.specs.declared.Shape.{Shape}
@@ -210,13 +211,13 @@ data-exact = record {
 
 -- ---- what they stand for
 
-pub row-of-parts : (account : List ℕ) (v : Validation) → length account ≡ 12 → IsValidation v → validationRow account (validationText v) ≡ done (validationNibbles account v)
+pub row-of-parts : (account : List ℕ) (v : Validation) → IsValidation v → validationRow account (validationText v) ≡ done (validationNibbles account v)
 unfolding validationRow
-row-of-parts account (withP cs) l g = rw (eq-eqb (suc (length cs)) 17 (omega (arith, g .0)), g .1)
-row-of-parts account (withN front back) l g =
+row-of-parts account (withP cs) g = rw (eq-eqb (suc (length cs)) 17 (omega (arith, g .0)), g .1)
+row-of-parts account (withN front back) g =
     let t = front ++ (0x4E ∷ back) in
     let h = all-both CapitalHex front back (g .1) in
     let long : length t ≡ 12 = length-append front (0x4E ∷ back) ∙ omega (arith, g .0, length-append front back) in
     let v = template-valid front back long (h .0) (h .1) in
-    rw (first-other front back [] (h .0) .0, v .0, v .1, take-append-seam front (0x4E ∷ back), past-front front 0x4E back, l)
-    (ap done (append-assoc (map valueOf front) (drop 7 account) (map valueOf back)))
+    rw (first-other front back [] (h .0) .0, v .0, v .1, take-append-seam front (0x4E ∷ back), past-front front 0x4E back)
+    (ap done (append-assoc (map valueOf front) (lastOf 5 account) (map valueOf back)))

@@ -1,12 +1,13 @@
 -- Fields 5, 9 and 10: the format, the validation data and the weak PINs.
-use Prim.Native.Nat.{ℕ, _-_}
+use Prim.Native.Nat.{ℕ}
 use mathlib.Core.Bool.{Bool, true, false}
 use mathlib.Core.List.{List, [], _∷_, _++_, map}
-use lib.ListN.{length, drop}
+use lib.ListN.{length}
 use Rattle.alphabet.specs.Alphabet.{valueOf}
 use Rattle.alphabet.specs.declared.Class.the-variants.{Digit, CapitalHex}
 use Rattle.formats.specs.declared.Format.{Format}
 use Rattle.formats.specs.declared.Format.the-variants.{F01, F03, F05, F34, F35, F47}
+use Rattle.pins.specs.Pins.{lastOf}
 use Rattle.texts.specs.Characters.{printed, OneOf}
 use Rattle.texts.specs.Texts.{Run, Within, asTwoDigits, together, Optional, absent, present}
 
@@ -41,7 +42,7 @@ IsValidation (withP cs) = Run CapitalHex 16 cs
 
 -- the nibbles that they stand for: "`N` is replaced by the last five account digits"
 abbrev pub validationNibbles : List ℕ → Validation → List ℕ
-validationNibbles account (withN before behind) = map valueOf before ++ (drop (length account - 5) account ++ map valueOf behind)
+validationNibbles account (withN before behind) = map valueOf before ++ (lastOf 5 account ++ map valueOf behind)
 validationNibbles account (withP cs) = map valueOf cs
 
 -- field 10 behind its mark: the count 00, or the length of the weak PINs and the PINs

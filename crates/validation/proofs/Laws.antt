@@ -19,7 +19,7 @@ use Rattle.alphabet.specs.declared.Class.the-variants.{CapitalHex}
 use Rattle.numbers.specs.Numbers.{Outcome, done, refused, andThen, unless}
 use Rattle.numbers.proofs.Laws.{passed, then-done, value-of}
 use Rattle.numbers.specs.declared.Refusal.the-variants.{Field15, Room901}
-use Rattle.pins.specs.Pins.{accountOf}
+use Rattle.pins.specs.Pins.{lastOf, accountOf}
 use Rattle.pins.specs.Answers.{rowOf}
 use Rattle.pins.proofs.Laws.{account-done}
 use Rattle.blocks.specs.Answers.{blockOf}
@@ -71,8 +71,8 @@ replaced-long ds cs d e =
     let t = template-place cs e in
     let f : length front ≡ p = values-length (take p cs) ∙ length-take-le p cs (omega arith) in
     let k : length back ≡ 12 - suc p = values-length (drop (suc p) cs) ∙ length-drop (suc p) cs ∙ ap (λ (n : ℕ). n - suc p) (t .0) in
-    let m : length (drop 7 ds) ≡ 5 = length-drop 7 ds ∙ omega arith in
-    length-append (front ++ drop 7 ds) back ∙ (let a = length-append front (drop 7 ds) in omega arith)
+    let m : length (lastOf 5 ds) ≡ 5 = length-drop (length ds - 5) ds ∙ omega arith in
+    length-append (front ++ lastOf 5 ds) back ∙ (let a = length-append front (lastOf 5 ds) in omega arith)
 
 replaced-sixteen : (ds cs : List ℕ) → length ds ≡ 12 → Below 16 ds → isTemplate cs ≡ true → Sixteen (replaced ds cs)
 replaced-sixteen ds cs d b e =
@@ -81,7 +81,7 @@ replaced-sixteen ds cs d b e =
     let back = map valueOf (drop (suc p) cs) in
     record {
       long = replaced-long ds cs d e;
-      nibbles = below-append 16 (front ++ drop 7 ds) back (below-append 16 front (drop 7 ds) (values-below (take p cs)) (below-drop 16 7 ds b)) (values-below (drop (suc p) cs));
+      nibbles = below-append 16 (front ++ lastOf 5 ds) back (below-append 16 front (lastOf 5 ds) (values-below (take p cs)) (below-drop 16 (length ds - 5) ds b)) (values-below (drop (suc p) cs));
     }
 
 pub row-sixteen : (ds cs ns : List ℕ) → length ds ≡ 12 → Below 16 ds → validationRow ds cs ≡ done ns → Sixteen ns
@@ -166,7 +166,7 @@ shape-long cs e = go (shapeOf cs) (measured cs) (sym (formed-valid cs) ∙ e)
 
 -- the row that each shape gives
 abbrev pub shaped : List ℕ → List ℕ → Shape → Outcome (List ℕ)
-shaped account cs (Template at) = done (map valueOf (take at cs) ++ drop 7 account ++ map valueOf (drop (suc at) cs))
+shaped account cs (Template at) = done (map valueOf (take at cs) ++ lastOf 5 account ++ map valueOf (drop (suc at) cs))
 shaped account cs Whole = done (map valueOf (drop 1 cs))
 shaped account cs Neither = refused Field15
 
@@ -256,7 +256,7 @@ module _ (account : ℕ) (s : List ℕ) (at : ℕ) (long : length s ≡ 12) (low
   frontRow = map valueOf (take at s)
 
   abbrev lastFive : List ℕ
-  lastFive = drop 7 (row 12 account)
+  lastFive = lastOf 5 (row 12 account)
 
   abbrev backRow : List ℕ
   backRow = map valueOf (drop (suc at) s)
@@ -265,10 +265,10 @@ module _ (account : ℕ) (s : List ℕ) (at : ℕ) (long : length s ≡ 12) (low
   front-length = values-length (take at s) ∙ length-take-le at s (omega arith)
 
   last-length : length lastFive ≡ 5
-  last-length = length-drop 7 (row 12 account) ∙ ap (λ (n : ℕ). n - 7) (row-length 12 account)
+  last-length = length-drop (length (row 12 account) - 5) (row 12 account) ∙ ap (λ (n : ℕ). n - (n - 5)) (row-length 12 account)
 
   last-below : Below 16 lastFive
-  last-below = below-drop 16 7 (row 12 account) (row-below 12 account)
+  last-below = below-drop 16 (length (row 12 account) - 5) (row 12 account) (row-below 12 account)
 
   back-length : length backRow ≡ 11 - at
   back-length = values-length (drop (suc at) s) ∙ length-drop (suc at) s ∙ omega arith
@@ -282,6 +282,7 @@ module _ (account : ℕ) (s : List ℕ) (at : ℕ) (long : length s ≡ 12) (low
 
   pub last-five : (l : ℕ) → l ≡ word (slice 7 12 (row 16 account)) → l ≡ word lastFive
   last-five l e = e ∙ ap (λ (xs : List ℕ). word (drop 7 xs)) (row-take 12 16 account (lit≤ tt))
+      ∙ ap (λ (n : ℕ). word (drop (n - 5) (row 12 account))) (sym (row-length 12 account))
 
   pub last-under : (l : ℕ) → l ≡ word (slice 7 12 (row 16 account)) → l < 16 ^ 5
   last-under l e = rw (last-five l e) (subst (λ (n : ℕ). word lastFive < 16 ^ n) last-length (word-lt lastFive last-below))

@@ -9,7 +9,7 @@ use Rattle.alphabet.specs.Alphabet.{admits, allOf, valueOf}
 use Rattle.alphabet.specs.declared.Class.the-variants.{CapitalHex}
 use Rattle.numbers.specs.Numbers.{Outcome, done, andThen, unless}
 use Rattle.numbers.specs.declared.Refusal.the-variants.{Field15, Room901}
-use Rattle.pins.specs.Pins.{accountOf}
+use Rattle.pins.specs.Pins.{lastOf, accountOf}
 
 -- `P`, and `N`
 abbrev pub letterP : ℕ
@@ -35,7 +35,7 @@ isTemplate cs = eqb (length cs) templateWidth && (eqb (getD cs (hexEnd cs) 0) le
 
 -- "N is replaced by the last five account digits"
 abbrev pub replaced : List ℕ → List ℕ → List ℕ
-replaced account cs = map valueOf (take (hexEnd cs) cs) ++ drop 7 account ++ map valueOf (drop (suc (hexEnd cs)) cs)
+replaced account cs = map valueOf (take (hexEnd cs) cs) ++ lastOf 5 account ++ map valueOf (drop (suc (hexEnd cs)) cs)
 
 -- "or P + 16 hex"
 abbrev pub isWhole : List ℕ → Bool

@@ -7,6 +7,7 @@ ghost use lib.ListN.{length, take, drop};
 ghost use Rattle.nibbles.specs.Nibbles.{word, row};
 ghost use Rattle.alphabet.specs.Alphabet.{valueOf};
 ghost use Rattle.numbers.specs.Promise.{Does, quietly};
+ghost use Rattle.pins.specs.Pins.{lastOf};
 ghost use Rattle.pins.specs.Answers.{rowOf};
 ghost use Rattle.blocks.specs.Answers.{blockOf};
 ghost use Rattle.validation.specs.Validation.{hexEnd, isTemplate, isWhole, validationRow, validationBlock};
@@ -26,7 +27,7 @@ pub enum Shape {
 // The values of twelve characters, with the last five account digits for the one at a place.
 fn with_account(account: u64, s: &[u8], at: usize) -> u64
     requires { ⌜ (length (now s) ≡ 12) × (at < 12) ⌝ }
-    ensures { λ r. ⌜ r ≡ word (map valueOf (take at (now (s .entry))) ++ drop 7 (row 12 account) ++ map valueOf (drop (suc at) (now (s .entry)))) ⌝ }
+    ensures { λ r. ⌜ r ≡ word (map valueOf (take at (now (s .entry))) ++ lastOf 5 (row 12 account) ++ map valueOf (drop (suc at) (now (s .entry)))) ⌝ }
 {
     let behind = at + 1;
     let front = pins::values(&s[..at]);
