@@ -10,7 +10,7 @@ use Rattle.fields.specs.Fields.{Stage, read, faulty}
 use Rattle.fields.specs.Answers.{noFault}
 use Rattle.fields.specs.declared.Fault.{Fault}
 use Rattle.weak.specs.Answers.{Lies}
-use Rattle.validation.specs.Answers.{shapeOf, shapeWidth}
+use Rattle.validation.specs.Validation.{shapeOf, shapeWidth}
 use Rattle.stages.specs.Stages.{part, validationIn}
 use Rattle.bk.specs.declared.Bk.{Bk}
 use Rattle.bk.specs.declared.BkRead.{BkRead}

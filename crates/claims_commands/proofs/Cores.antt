@@ -18,7 +18,7 @@ use Rattle.settings.specs.Settings.{usually}
 use Rattle.settings.specs.declared.Settings.{Settings}
 use Rattle.formats.specs.Formats.{codeOf}
 use Rattle.blocks.specs.Blocks.{contents, readRow}
-use Rattle.validation.specs.Validation.{validationRow}
+use Rattle.validation.specs.Validation.{shapeOf, validationRow}
 use Rattle.validation.proofs.Laws.{row-of-valid}
 use Rattle.ibm3624.specs.Ibm3624.{differences}
 use Rattle.offsets.specs.Offsets.{pinWithNatural}
@@ -34,7 +34,6 @@ use Rattle.keys.specs.Keys.{keyType, hexKey, lettered, key}
 use Rattle.weak.specs.Weak.{weakField, entries, isOn}
 use Rattle.keybox.specs.KeyBox.{slices, parities, boxed}
 use Rattle.responses.specs.Responses.{responding}
-use Rattle.validation.specs.Answers.{shapeOf}
 use Rattle.stages.proofs.Laws.{offsetting-held}
 use Rattle.stages.specs.Stages.{keys, formatField, sealed, validationField, offsetting, weak, accountIn, validationIn}
 use Rattle.endings.specs.Endings.{end}

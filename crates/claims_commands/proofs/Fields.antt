@@ -16,8 +16,7 @@ use Rattle.numbers.specs.declared.Refusal.the-variants.{WeakList03, Field15, Fo
 use Rattle.formats.specs.Formats.{codeOf, formatOf}
 use Rattle.formats.specs.declared.Code.{Code}
 use Rattle.formats.specs.declared.Code.the-variants.{Built, Known, Unknown}
-use Rattle.validation.specs.Validation.{isValidation}
-use Rattle.validation.specs.Answers.{shapeOf}
+use Rattle.validation.specs.Validation.{widthOf, shapeOf, isValidation}
 use Rattle.fields.specs.Fields.{Found, Stage, read, faulty, run, number, twoDigits, marked, behind, trailerMark, longestTrailer, atMost, trailer, fielded, onward, Ruling, pointing, heard, outcome}
 use Rattle.fields.proofs.Rulings.{heard-pointing}
 use Rattle.fields.specs.declared.Fault.{Fault}
@@ -31,7 +30,7 @@ use Rattle.keys.specs.Keys.{type001, type002, typeFFF, onlyUOrT, onlyS, keyType
 use Rattle.keys.specs.declared.Letters.{Letters}
 use Rattle.weak.specs.Weak.{noneAt, weakField}
 use Rattle.weak.specs.Weak as list
-use Rattle.stages.specs.Stages.{allows, formatField, validationWidth, validationField, keys, sealed, offsetting, weak}
+use Rattle.stages.specs.Stages.{allows, formatField, validationField, keys, sealed, offsetting, weak}
 use Rattle.endings.specs.Endings.{allAgree, lastId, closed, end}
 use Rattle.stages.specs.declared.Keys.{Keys}
 use Rattle.bk.specs.Bk.{weakMark, bkFields}
@@ -166,7 +165,7 @@ format-gives restricted cs =
 validation-gives : (cs : List ℕ) → Only OfFields (validationField cs)
 unfolding validationField
 validation-gives cs =
-    then-only OfFields (unless Field15 (leb (validationWidth cs) (length cs)) (validationWidth cs)) _ (test-only OfFields Field15 refl (leb (validationWidth cs) (length cs)) (validationWidth cs))
+    then-only OfFields (unless Field15 (leb (widthOf cs) (length cs)) (widthOf cs)) _ (test-only OfFields Field15 refl (leb (widthOf cs) (length cs)) (widthOf cs))
     (λ n. test-only OfFields Field15 refl (isValidation (take n cs)) (shapeOf (take n cs), n))
 
 -- 15 for the length of the weak PINs, 03 for their list

@@ -4,14 +4,13 @@ use Prim.Native.Nat.{ℕ, _+_, _-_, _≤_}
 use native.Mathlib.Omega.{arith}
 use mathlib.Core.Path.{_≡_, refl, sym, ap, ap₂, _∙_, subst}
 use mathlib.Core.Logic.{inl, inr}
-use mathlib.Core.List.{List, [], _∷_, map}
+use mathlib.Core.List.{List, [], _∷_}
 use mathlib.Core.Bool.{Bool, true, false, not, _||_, false≢true}
-use lib.ListN.{length, getD, drop, length-append, length-drop}
+use lib.ListN.{length, drop, length-append, length-drop}
 use lib.Dec.{leb, eqb}
 use borrow.Author.Tests.{not-true, eq-eqb, eqb-true}
 use Rattle.nibbles.specs.Nibbles.{nibs, packs, every}
 use Rattle.nibbles.proofs.Lists.{and-left, and-right}
-use Rattle.alphabet.specs.Alphabet.{valueOf}
 use Rattle.numbers.specs.Numbers.{Outcome, done, refused, andThen, unless, numberOf}
 use Rattle.numbers.specs.Promise.{Said, quietly}
 use Rattle.numbers.specs.declared.Refusal.{Refusal}
@@ -22,7 +21,7 @@ use Rattle.formats.specs.declared.Format.{Format}
 use Rattle.pins.specs.Pins.{accountField, sized}
 use Rattle.blocks.specs.Blocks.{readRow}
 use Rattle.blocks.proofs.Laws.{sixteen-bytes}
-use Rattle.validation.specs.Validation.{letterP, isWhole, isTemplate, replaced, validationRow}
+use Rattle.validation.specs.Validation.{validationRow}
 use Rattle.ibm3624.specs.Ibm3624.{naturalOf, covers, offsetOf, offsetText}
 use Rattle.ibm3624.proofs.Laws.{text-length}
 use Rattle.offsets.specs.Offsets.{pinWithNatural, offsetFor}
@@ -45,7 +44,8 @@ use Rattle.claims_blocks.specs.Promises.{listed}
 use Rattle.claims_blocks.proofs.Judged.{Only, Fault, done-only, refused-only, test-only, then-only}
 use Rattle.claims_blocks.proofs.Trips.{read-faults}
 use Rattle.claims_commands.specs.Numbers.{askNumbers, answerNumbers, AskCounts, AnswerCounts, AskNumbers, AnswerNumbers, VariableNever81}
-use Rattle.claims_commands.proofs.Fields.{In, fieldNumbers, either-only, then-heard, pointed-only, fields-give}
+use Rattle.claims_offsets.proofs.Refused.{validation-only}
+use Rattle.claims_commands.proofs.Fields.{In, fieldNumbers, then-heard, pointed-only, fields-give}
 
 -- ---- numbers that stand in a list
 
@@ -71,11 +71,7 @@ askRefusals = 68 ∷ 901 ∷ 902 ∷ fieldNumbers
 
 -- validation data
 row-gives : (account cs : List ℕ) → Only (In askRefusals) (validationRow account cs)
-unfolding validationRow
-row-gives account cs =
-    either-only (In askRefusals) (eqb (getD cs 0 0) letterP) _ _
-    (test-only (In askRefusals) Field15 refl (isWhole cs) (map valueOf (drop 1 cs)))
-    (test-only (In askRefusals) Field15 refl (isTemplate cs) (replaced account cs))
+row-gives = validation-only (In askRefusals) refl
 
 -- a command, by its code
 ask-gives : (code : Code) (settings : Settings) (s : List ℕ) (at : ℕ) → Only (In askRefusals) (heard (askBy code settings s at))

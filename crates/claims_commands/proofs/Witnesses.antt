@@ -27,7 +27,7 @@ use Rattle.weak.specs.Weak.{noneAt, listed, weakField, entries, isOn}
 use Rattle.weak.specs.declared.Weak.{Weak}
 use Rattle.keybox.specs.KeyBox.{slices, parities, boxed}
 use Rattle.responses.specs.Responses.{roomToAnswer}
-use Rattle.validation.specs.Answers.{shapeOf}
+use Rattle.validation.specs.Validation.{shapeOf}
 use Rattle.validation.specs.declared.Shape.the-variants.{Template}
 use Rattle.stages.specs.Stages.{keys, formatField, sealed, validationField, offsetting, weak, accountIn, tableIn}
 use Rattle.endings.specs.Endings.{end}

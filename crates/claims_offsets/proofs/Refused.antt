@@ -4,8 +4,8 @@ use Prim.Native.Nat.{ℕ}
 use mathlib.Core.Path.{_≡_, refl, sym, subst}
 use mathlib.Core.Logic.{inl, inr}
 use mathlib.Core.List.{List, [], map}
-use mathlib.Core.Bool.{Bool, true, false, _&&_, cond}
-use lib.ListN.{length, getD, take, drop}
+use mathlib.Core.Bool.{Bool, true, false, _&&_}
+use lib.ListN.{length, take, drop}
 use lib.Dec.{leb, eqb}
 use Rattle.nibbles.specs.Nibbles.{nibs, packs, within, every, same}
 use Rattle.alphabet.specs.Alphabet.{allOf, valueOf}
@@ -19,7 +19,9 @@ use Rattle.formats.specs.declared.Code.the-variants.{Built, Known, Unknown}
 use Rattle.formats.specs.declared.Format.{Format}
 use Rattle.pins.specs.Pins.{digit, pinLength, digitsHanded, pinHanded, padded, accountOf, accountField, sized}
 use Rattle.blocks.specs.Blocks.{readRow}
-use Rattle.validation.specs.Validation.{letterP, isWhole, isTemplate, replaced, validationRow}
+use Rattle.validation.specs.Validation.{shapeOf, replaced, shaped, validationRow}
+use Rattle.validation.specs.declared.Shape.{Shape}
+use Rattle.validation.specs.declared.Shape.the-variants.{Template, Whole, Neither}
 use Rattle.ibm3624.specs.Ibm3624.{tableSized, tableOf, naturalOf, naturalHanded, checkLength, covers, covered, offsetOf, offsetText, digitEnd, offsetPresented}
 use Rattle.offsets.specs.Offsets.{given, pinWithNatural, pinAndNatural, digitsGiven, offsetJudged, digitsJudged, offsetMade, offsetOfDigits, differencesOf}
 use Rattle.verdicts.specs.Verdicts.{offsetVerdict}
@@ -30,11 +32,6 @@ use Rattle.claims_blocks.proofs.Trips.{read-faults}
 -- ---- for what each judgement is refused, over any refusals that hold those named
 
 module _ (these : Refusal → Type 0) where
-  -- one judgement or another
-  pub either-only : {A : Type 0} (t : Bool) (o o′ : Outcome A) → Only these o → Only these o′ → Only these (cond t o o′)
-  either-only true o o′ c d = c
-  either-only false o o′ c d = d
-
   -- 901
   pub room-only : these Room901 → (least room : ℕ) → Only these (unless Room901 (leb least room) room)
   room-only r least room = test-only these Room901 r (leb least room) room
@@ -81,10 +78,12 @@ module _ (these : Refusal → Type 0) where
   -- 15 for validation data
   pub validation-only : these Field15 → (account cs : List ℕ) → Only these (validationRow account cs)
   unfolding validationRow
-  validation-only c account cs =
-      either-only (eqb (getD cs 0 0) letterP) _ _
-      (test-only these Field15 c (isWhole cs) (map valueOf (drop 1 cs)))
-      (test-only these Field15 c (isTemplate cs) (replaced account cs))
+  validation-only c account cs = go (shapeOf cs)
+    where
+      go : (x : Shape) → Only these (shaped account cs x)
+      go (Template at) = done-only these (replaced account at cs)
+      go Whole = done-only these (map valueOf (drop 1 cs))
+      go Neither = refused-only these Field15 c
 
   -- 15 for the fields of the offset calls
   pub given-only : these Field15 → (code check : ℕ) (block account table enciphered : List ℕ) → Only these (given code check block account table enciphered)

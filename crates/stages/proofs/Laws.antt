@@ -21,11 +21,10 @@ use Rattle.numbers.proofs.Laws.{then-done, passed}
 use Rattle.fields.specs.Fields.{read, onward, run, number}
 use Rattle.fields.proofs.Laws.{run-found, number-found}
 use Rattle.fields.proofs.Reading.{field-read, read-once, inside, inside-from}
-use Rattle.stages.specs.Stages.{offsetting, validationField, validationWidth, validationIn, part, weak}
+use Rattle.stages.specs.Stages.{offsetting, validationField, validationIn, part, weak}
 use Rattle.stages.specs.declared.Offsetting.{Offsetting}
 use Rattle.stages.proofs.Reading.{width-bounds}
-use Rattle.validation.specs.Validation.{isValidation}
-use Rattle.validation.specs.Answers.{shapeOf, shapeWidth}
+use Rattle.validation.specs.Validation.{widthOf, shapeOf, shapeWidth, isValidation}
 use Rattle.validation.specs.declared.Shape.{Shape}
 use Rattle.validation.proofs.Laws.{shape-long}
 use Rattle.weak.specs.Weak.{weakField}
@@ -35,14 +34,14 @@ use Rattle.weak.proofs.Laws.{weak-lies, weak-onward}
 
 -- validation data that were found are whole and have a shape, and the command holds them
 pub validation-found : (cs : List ℕ) (x : Shape) (n : ℕ) → validationField cs ≡ done (x, n)
-    → (validationWidth cs ≡ n) × (n ≤ length cs) × (isValidation (take n cs) ≡ true) × (x ≡ shapeOf (take n cs))
+    → (widthOf cs ≡ n) × (n ≤ length cs) × (isValidation (take n cs) ≡ true) × (x ≡ shapeOf (take n cs))
 unfolding validationField
 validation-found cs x n e =
-    let first = then-done (unless Field15 (leb (validationWidth cs) (length cs)) (validationWidth cs)) _ (x, n) e in
-    let fits = passed Field15 (leb (validationWidth cs) (length cs)) (validationWidth cs) (first .0) (first .1) in
+    let first = then-done (unless Field15 (leb (widthOf cs) (length cs)) (widthOf cs)) _ (x, n) e in
+    let fits = passed Field15 (leb (widthOf cs) (length cs)) (widthOf cs) (first .0) (first .1) in
     let whole = passed Field15 (isValidation (take (first .0) cs)) (shapeOf (take (first .0) cs), first .0) (x, n) (first .2) in
     let m : first .0 ≡ n = ap (λ (r : Shape × ℕ). r .1) (whole .1) in
-    let short = leb-true (validationWidth cs) (length cs) (fits .0) in
+    let short = leb-true (widthOf cs) (length cs) (fits .0) in
     let same = fits .1 in (
       fits .1 ∙ m,
       omega arith,

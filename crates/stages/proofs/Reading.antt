@@ -5,22 +5,21 @@ use native.Mathlib.Omega.{arith}
 use mathlib.Core.Path.{_≡_, sym, ap, _∙_}
 use mathlib.Core.List.{List}
 use mathlib.Core.Bool.{Bool, true, false, cond}
-use lib.ListN.{length, take, drop, length-drop}
-use lib.Dec.{leb}
+use lib.ListN.{length, getD, take, drop, length-drop}
+use lib.Dec.{leb, eqb}
 use borrow.Author.Tests.{lt-leb, le-leb}
 use Rattle.numbers.specs.Numbers.{done, refused, andThen, unless}
 use Rattle.numbers.specs.declared.Refusal.{Refusal}
 use Rattle.numbers.specs.declared.Refusal.the-variants.{Field15}
 use Rattle.formats.specs.declared.Format.{Format}
-use Rattle.fields.specs.Fields.{Found, Stage, read, faulty, marked}
+use Rattle.fields.specs.Fields.{Found, Stage, read, faulty}
 use Rattle.fields.specs.Answers.{cursorAt}
 use Rattle.fields.specs.declared.Cursor.{Cursor}
 use Rattle.fields.specs.declared.Fault.{Fault}
-use Rattle.validation.specs.Validation.{isValidation}
-use Rattle.validation.specs.Answers.{shapeOf}
+use Rattle.validation.specs.Validation.{letterP, widthOf, shapeOf, isValidation}
 use Rattle.validation.specs.declared.Shape.{Shape}
 use Rattle.weak.specs.declared.Weak.{Weak}
-use Rattle.stages.specs.Stages.{validationWidth, validationField}
+use Rattle.stages.specs.Stages.{validationField}
 use Rattle.stages.specs.Answers.{formatRead, shapeRead, keysRead, sealedRead, offsettingRead, weakStage}
 use Rattle.stages.specs.declared.Keys.{Keys}
 use Rattle.stages.specs.declared.Sealed.{Sealed}
@@ -56,27 +55,27 @@ shape-bad at (refused p) q e = cc
 -- ---- validation data
 
 -- they have 12 characters or 17
-pub width-bounds : (cs : List ℕ) → (12 ≤ validationWidth cs) × (validationWidth cs ≤ 17)
-width-bounds cs = by-mark (marked 0x50 cs) where
+pub width-bounds : (cs : List ℕ) → (12 ≤ widthOf cs) × (widthOf cs ≤ 17)
+width-bounds cs = by-mark (eqb (getD cs 0 0) letterP) where
   by-mark : (there : Bool) → (12 ≤ cond there 17 12) × (cond there 17 12 ≤ 17)
   by-mark true = (omega arith, omega arith)
   by-mark false = (omega arith, omega arith)
 
 -- what the code's answer tells of them
 
-module _ (s : List ℕ) (at width : ℕ) (w : width ≡ validationWidth (drop at s)) where
+module _ (s : List ℕ) (at width : ℕ) (w : width ≡ widthOf (drop at s)) where
   pub validation-short : length s - at < width → shape.Bad Field15 ≡ shapeRead at (validationField (drop at s))
   unfolding validationField
-  validation-short h = rw (lt-leb (validationWidth (drop at s)) (length (drop at s)) (omega (arith, w, length-drop at s)))
+  validation-short h = rw (lt-leb (widthOf (drop at s)) (length (drop at s)) (omega (arith, w, length-drop at s)))
 
   module _ (h : width ≤ length s - at) where
-    fits : leb (validationWidth (drop at s)) (length (drop at s)) ≡ true
-    fits = le-leb (validationWidth (drop at s)) (length (drop at s)) (omega (arith, w, length-drop at s))
+    fits : leb (widthOf (drop at s)) (length (drop at s)) ≡ true
+    fits = le-leb (widthOf (drop at s)) (length (drop at s)) (omega (arith, w, length-drop at s))
 
-    exact : at + width - at ≡ validationWidth (drop at s)
+    exact : at + width - at ≡ widthOf (drop at s)
     exact = omega (arith, w)
 
-    part : take (at + width - at) (drop at s) ≡ take (validationWidth (drop at s)) (drop at s)
+    part : take (at + width - at) (drop at s) ≡ take (widthOf (drop at s)) (drop at s)
     part = ap (λ (n : ℕ). take n (drop at s)) exact
 
     pub validation-whole : (x : Shape) → x ≡ shapeOf (take (at + width - at) (drop at s)) → isValidation (take (at + width - at) (drop at s)) ≡ true
@@ -91,14 +90,14 @@ module _ (s : List ℕ) (at width : ℕ) (w : width ≡ validationWidth (drop at
 -- they are refused with 15
 pub validation-refuses : (cs : List ℕ) (q : Refusal) → validationField cs ≡ refused q → q ≡ Field15
 unfolding validationField
-validation-refuses cs q e = go (leb (validationWidth cs) (length cs)) e
+validation-refuses cs q e = go (leb (widthOf cs) (length cs)) e
   where
     wrong : {A : Type 0} (valid : Bool) (a : A) → unless Field15 valid a ≡ refused q → q ≡ Field15
     wrong true a e = absurd (let z : _≡_ {A = ℕ} 0 1 = cc in omega arith)
     wrong false a e = cc
 
-    go : (room : Bool) → andThen {B = Shape × ℕ} (unless Field15 room (validationWidth cs)) (λ n. unless Field15 (isValidation (take n cs)) (shapeOf (take n cs), n)) ≡ refused q → q ≡ Field15
-    go true e = wrong (isValidation (take (validationWidth cs) cs)) (shapeOf (take (validationWidth cs) cs), validationWidth cs) e
+    go : (room : Bool) → andThen {B = Shape × ℕ} (unless Field15 room (widthOf cs)) (λ n. unless Field15 (isValidation (take n cs)) (shapeOf (take n cs), n)) ≡ refused q → q ≡ Field15
+    go true e = wrong (isValidation (take (widthOf cs) cs)) (shapeOf (take (widthOf cs) cs), widthOf cs) e
     go false e = cc
 
 -- ---- behind a stage's answer: what was read, and where the next stage begins; or the fault

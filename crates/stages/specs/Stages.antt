@@ -1,7 +1,7 @@
 -- The stages of a command: runs of fields that commands share. Each is told its first field's number, `which`.
 use Prim.Native.Nat.{ℕ, _+_}
 use mathlib.Core.List.{List, map}
-use mathlib.Core.Bool.{Bool, not, _||_, cond}
+use mathlib.Core.Bool.{Bool, not, _||_}
 use lib.ListN.{length, take, drop}
 use lib.Dec.{leb}
 use Rattle.alphabet.specs.Alphabet.{valueOf}
@@ -10,10 +10,9 @@ use Rattle.numbers.specs.Numbers.{andThen, unless}
 use Rattle.numbers.specs.declared.Refusal.the-variants.{Field15, Table25, NotHere69}
 use Rattle.formats.specs.Formats.{codeOf, formatOf, is01or47}
 use Rattle.formats.specs.declared.Format.{Format}
-use Rattle.validation.specs.Validation.{letterP, templateWidth, wholeWidth, isValidation}
-use Rattle.validation.specs.Answers.{shapeOf, shapeWidth}
+use Rattle.validation.specs.Validation.{widthOf, shapeOf, shapeWidth, isValidation}
 use Rattle.validation.specs.declared.Shape.{Shape}
-use Rattle.fields.specs.Fields.{Found, Stage, read, field, run, number, marked}
+use Rattle.fields.specs.Fields.{Found, Stage, read, field, run, number}
 use Rattle.uses.specs.declared.Use.{Use}
 use Rattle.keys.specs.Keys.{keyType, key}
 use Rattle.weak.specs.Weak.{weakField}
@@ -54,14 +53,10 @@ sealed which restricted s block =
 
 -- ---- Offsetting: check length, account, decimalisation table, validation data
 
--- "12 characters, eleven hex and exactly one N; or P + 16 hex"
-abbrev pub validationWidth : List ℕ → ℕ
-validationWidth cs = cond (marked letterP cs) wholeWidth templateWidth
-
--- what is read is their shape, with the place of the N
+-- "12 characters, eleven hex and exactly one N; or P + 16 hex": what is read is their shape, with the place of the N
 unfoldable pub validationField : List ℕ → Found Shape
 validationField cs =
-    andThen (unless Field15 (leb (validationWidth cs) (length cs)) (validationWidth cs))
+    andThen (unless Field15 (leb (widthOf cs) (length cs)) (widthOf cs))
     (λ n. unless Field15 (isValidation (take n cs)) (shapeOf (take n cs), n))
 
 -- "6. Check length, 04 to 12"; "7. Account, 12 digits"; "8. Decimalisation table, 16 digits. Characters missing at the end of the

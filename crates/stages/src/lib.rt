@@ -3,7 +3,8 @@
 ghost use mathlib.Core.Path.{_≡_};
 ghost use Prim.Native.Nat.{_≤_};
 ghost use lib.ListN.{drop};
-ghost use Rattle.stages.specs.Stages.{keys, allows, formatField, sealed, validationWidth, validationField, offsetting, weak};
+ghost use Rattle.validation.specs.Validation.{widthOf};
+ghost use Rattle.stages.specs.Stages.{keys, allows, formatField, sealed, validationField, offsetting, weak};
 ghost use Rattle.stages.specs.Answers.{keysRead, keysFault, sealedRead, sealedFault, offsettingRead, offsettingFault, weakStage, weakFault, formatRead, formatRefusal, shapeRead};
 use alphabet::Class;
 use fields::Cursor;
@@ -210,7 +211,7 @@ pub fn read_sealed(command: &[u8], block: Cursor, field: usize, restricted: bool
 }
 
 fn validation_width(cursor: Cursor, command: &[u8]) -> usize
-    ensures { λ r. ⌜ r ≡ validationWidth (drop (cursor .at) (now (command .entry))) ⌝ }
+    ensures { λ r. ⌜ r ≡ widthOf (drop (cursor .at) (now (command .entry))) ⌝ }
 {
     let marked = cursor.mark(command, b'P');
     let Mark::Behind(_) = marked else {

@@ -3,7 +3,7 @@
 use Prim.Native.Nat.{ℕ, suc, _≤_, _<_}
 use native.Mathlib.Omega.{arith}
 use mathlib.Core.Path.{_≡_, refl, sym, ap, _∙_}
-use mathlib.Core.List.{List, [], _∷_, _++_, map, append-assoc}
+use mathlib.Core.List.{List, [], _∷_, _++_, map, append-assoc, append-nil}
 use mathlib.Core.Bool.{Bool, true, false, cond, _&&_}
 use lib.ListN.{length, getD, take, drop, length-append, length-drop, take-append-drop, List·getD-eq-default}
 use lib.Seq.{take-at, length-take-le, split-at, take-append-seam, getD-append-seam}
@@ -12,19 +12,18 @@ use borrow.Author.Tests.{le-leb, leb-true, leb-false, eqb-true, eq-eqb, ne-eqb}
 use Rattle.nibbles.specs.Nibbles.{leading}
 use Rattle.nibbles.proofs.Lists.{and-left, and-right}
 use Rattle.nibbles.proofs.Runs.{leading-take}
-use Rattle.alphabet.specs.Alphabet.{admits, allOf, begins, valueOf}
+use Rattle.alphabet.specs.Alphabet.{admits, allOf, valueOf}
 use Rattle.alphabet.specs.declared.Class.{Class}
 use Rattle.alphabet.specs.declared.Class.the-variants.{CapitalHex}
 use Rattle.numbers.specs.Numbers.{done, andThen, unless}
 use Rattle.numbers.specs.declared.Refusal.the-variants.{Field15}
 use Rattle.numbers.proofs.Laws.{then-done, passed}
 use Rattle.pins.specs.Pins.{lastOf}
-use Rattle.validation.specs.Validation.{hexEnd, isTemplate, isWhole, isValidation, validationRow}
-use Rattle.validation.specs.Answers.{shapeOf}
+use Rattle.validation.specs.Validation.{hexEnd, isTemplate, isWhole, widthOf, shapeOf, formed, isValidation, shaped, validationRow}
+use Rattle.validation.proofs.Laws.{led-by-p}
 use Rattle.validation.specs.declared.Shape.{Shape}
-use Rattle.validation.specs.declared.Shape.the-variants.{Template, Whole}
-use Rattle.fields.specs.Fields.{marked}
-use Rattle.stages.specs.Stages.{validationWidth, validationField}
+use Rattle.validation.specs.declared.Shape.the-variants.{Template, Whole, Neither}
+use Rattle.stages.specs.Stages.{validationField}
 use Rattle.texts.specs.Exact.{Opens, Exact}
 use Rattle.texts.proofs.Runs.{all-append, all-both, fronts}
 use Rattle.texts.proofs.Closing.{apart-of}
@@ -35,7 +34,7 @@ use Rattle.texts_data.specs.DataWritings.{shape, validations}
 -- ---- what is written is read back
 
 -- the reader, told its width and its tests
-found : (cs : List ℕ) (n : ℕ) (x : Shape) → validationWidth cs ≡ n → n ≤ length cs → isValidation (take n cs) ≡ true → shapeOf (take n cs) ≡ x → validationField cs ≡ done (x, n)
+found : (cs : List ℕ) (n : ℕ) (x : Shape) → widthOf cs ≡ n → n ≤ length cs → isValidation (take n cs) ≡ true → shapeOf (take n cs) ≡ x → validationField cs ≡ done (x, n)
 unfolding validationField
 found cs n x w l v s = rw (w, le-leb n (length cs) l, v, s)
 
@@ -58,12 +57,18 @@ past-front (c ∷ front) x back = past-front front x back
 not-p : (c : ℕ) → admits CapitalHex c ≡ true → c ≡ 0x50 → ⊥
 not-p c h e = let f : admits CapitalHex 0x50 ≡ true = ap (admits CapitalHex) (sym e) ∙ h in let z : _≡_ {A = ℕ} 0 1 = cc in omega arith
 
-first-other : (front back rest : List ℕ) → allOf CapitalHex front ≡ true → (eqb (getD (front ++ (0x4E ∷ back)) 0 0) 0x50 ≡ false) × (marked 0x50 ((front ++ (0x4E ∷ back)) ++ rest) ≡ false)
-unfolding allOf begins
-first-other [] back rest h = (refl, refl)
-first-other (c ∷ front) back rest h =
-    let d = not-p c (and-left (admits CapitalHex c) (allOf CapitalHex front) h) in
-    (ne-eqb c 0x50 d, rw (ne-eqb 0x50 c (λ e. d (sym e))))
+first-other : (front back rest : List ℕ) → allOf CapitalHex front ≡ true → eqb (getD ((front ++ (0x4E ∷ back)) ++ rest) 0 0) 0x50 ≡ false
+unfolding allOf
+first-other [] back rest h = refl
+first-other (c ∷ front) back rest h = ne-eqb c 0x50 (not-p c (and-left (admits CapitalHex c) (allOf CapitalHex front) h))
+
+first-led : (front back : List ℕ) → allOf CapitalHex front ≡ true → eqb (getD (front ++ (0x4E ∷ back)) 0 0) 0x50 ≡ false
+first-led front back h = ap (λ (l : List ℕ). eqb (getD l 0 0) 0x50) (sym (append-nil (front ++ (0x4E ∷ back)))) ∙ first-other front back [] h
+
+-- data that begin with another character are judged as twelve
+shape-template : (t : List ℕ) → eqb (getD t 0 0) 0x50 ≡ false → isTemplate t ≡ true → shapeOf t ≡ Template (hexEnd t)
+unfolding shapeOf
+shape-template t h v = rw (h, v)
 
 template-valid : (front back : List ℕ) → length (front ++ (0x4E ∷ back)) ≡ 12 → allOf CapitalHex front ≡ true → allOf CapitalHex back ≡ true
     → (isTemplate (front ++ (0x4E ∷ back)) ≡ true) × (hexEnd (front ++ (0x4E ∷ back)) ≡ length front)
@@ -73,7 +78,7 @@ template-valid front back l f b =
     (rw (eq-eqb (length t) 12 l, end, getD-append-seam front 0x4E back 0, past-front front 0x4E back) b, end)
 
 data-back : (p : Validation) (rest : List ℕ) → IsValidation p → validationField (validationText p ++ rest) ≡ done (shape p, length (validationText p))
-unfolding shapeOf begins
+unfolding shapeOf
 data-back (withP cs) rest g =
     let v = whole-valid cs (g .0) (g .1) in
     let t : take 17 (0x50 ∷ (cs ++ rest)) ≡ 0x50 ∷ cs = ap (λ (x : List ℕ). 0x50 ∷ x) (take-at cs rest 16 (g .0)) in
@@ -84,9 +89,9 @@ data-back (withN front back) rest g =
     let h = all-both CapitalHex front back (g .1) in
     let long : length t ≡ 12 = length-append front (0x4E ∷ back) ∙ omega (arith, g .0, length-append front back) in
     let v = template-valid front back long (h .0) (h .1) in
-    let f = first-other front back rest (h .0) in
     let e : take 12 (t ++ rest) ≡ t = take-at t rest 12 long in
-    found (t ++ rest) 12 (Template (length front)) (rw (f .1)) (omega (arith, length-append t rest, long)) (ap isValidation e ∙ rw (f .0) (v .0)) (ap shapeOf e ∙ rw (f .0, v .0) (ap Template (v .1)))
+    let s : shapeOf t ≡ Template (length front) = shape-template t (first-led front back (h .0)) (v .0) ∙ ap Template (v .1) in
+    found (t ++ rest) 12 (Template (length front)) (rw (first-other front back rest (h .0))) (omega (arith, length-append t rest, long)) (ap isValidation e ∙ ap formed s) (ap shapeOf e ∙ s)
     ∙ ap (λ (k : ℕ). done (Template (length front), k)) (sym long)
 
 -- ---- nothing else is read
@@ -132,14 +137,26 @@ template-parts t h =
       ),
     )
 
-first-same : (n : ℕ) (cs : List ℕ) → marked 0x50 cs ≡ false → eqb (getD (take (suc n) cs) 0 0) 0x50 ≡ false
-unfolding begins
-first-same n [] h = refl
-first-same n (c ∷ cs) h = ne-eqb c 0x50 (λ e. let t : (eqb 0x50 c && true) ≡ true = rw (eq-eqb 0x50 c (sym e)) in let z : _≡_ {A = ℕ} 0 1 = cc in omega arith)
+first-same : (n : ℕ) (cs : List ℕ) → getD (take (suc n) cs) 0 0 ≡ getD cs 0 0
+first-same n [] = refl
+first-same n (c ∷ cs) = refl
 
-shape-template : (t : List ℕ) → eqb (getD t 0 0) 0x50 ≡ false → isTemplate t ≡ true → shapeOf t ≡ Template (hexEnd t)
+-- what has a shape has passed its test
+whole-formed : (cs : List ℕ) → isValidation (0x50 ∷ cs) ≡ true → isWhole (0x50 ∷ cs) ≡ true
 unfolding shapeOf
-shape-template t h v = rw (h, v)
+whole-formed cs e = go (isWhole (0x50 ∷ cs)) refl e
+  where
+    go : (b : Bool) → isWhole (0x50 ∷ cs) ≡ b → formed (cond b Whole Neither) ≡ true → isWhole (0x50 ∷ cs) ≡ true
+    go true h f = h
+    go false h f = absurd (let z : _≡_ {A = ℕ} 0 1 = cc in omega arith)
+
+template-formed : (t : List ℕ) → eqb (getD t 0 0) 0x50 ≡ false → isValidation t ≡ true → isTemplate t ≡ true
+unfolding shapeOf
+template-formed t other e = go (isTemplate t) refl (rw other at e)
+  where
+    go : (b : Bool) → isTemplate t ≡ b → formed (cond b (Template (hexEnd t)) Neither) ≡ true → isTemplate t ≡ true
+    go true h f = h
+    go false h f = absurd (let z : _≡_ {A = ℕ} 0 1 = cc in omega arith)
 
 -- the reader's tests, at its width
 at-width : (cs : List ℕ) (n : ℕ) (a : Shape) (m : ℕ) → andThen {B = Shape × ℕ} (unless Field15 (leb n (length cs)) n) (λ k. unless Field15 (isValidation (take k cs)) (shapeOf (take k cs), k)) ≡ done (a, m)
@@ -150,15 +167,15 @@ at-width cs n a m e =
     let w = passed {A = Shape × ℕ} Field15 (isValidation (take (t .0) cs)) (shapeOf (take (t .0) cs), t .0) (a, m) (t .2) in
     (leb-true n (length cs) (p .0), rw (p .1) (w .0), rw (p .1) (ap (λ (r : Shape × ℕ). r .0) (w .1)), p .1 ∙ ap (λ (r : Shape × ℕ). r .1) (w .1))
 
-by-mark : (cs : List ℕ) (a : Shape) (m : ℕ) (b : Bool) → marked 0x50 cs ≡ b
+by-mark : (cs : List ℕ) (a : Shape) (m : ℕ) (b : Bool) → eqb (getD cs 0 0) 0x50 ≡ b
     → andThen {B = Shape × ℕ} (unless Field15 (leb (cond b 17 12) (length cs)) (cond b 17 12)) (λ k. unless Field15 (isValidation (take k cs)) (shapeOf (take k cs), k)) ≡ done (a, m)
     → Opens validations cs m a
 by-mark cs a m true h e =
     let f = at-width cs 17 a m e in
     let ds = drop 1 cs in
-    let all : cs ≡ 0x50 ∷ ds = mark-first 0x50 cs h in
+    let all : cs ≡ 0x50 ∷ ds = mark-first 0x50 cs (led-by-p cs ∙ h) in
     let t : take 17 cs ≡ 0x50 ∷ take 16 ds = ap (take 17) all in
-    let v : isWhole (0x50 ∷ take 16 ds) ≡ true = ap isValidation (sym t) ∙ f .1 in
+    let v : isWhole (0x50 ∷ take 16 ds) ≡ true = whole-formed (take 16 ds) (ap isValidation (sym t) ∙ f .1) in
     let l : length (take 16 ds) ≡ 16 = length-take-le 16 ds (omega (arith, f .0, length-drop 1 cs)) in
     let c = and-right (eqb (suc (length (take 16 ds))) 17) (allOf CapitalHex (take 16 ds)) v in
     record {
@@ -172,8 +189,8 @@ by-mark cs a m true h e =
 by-mark cs a m false h e =
     let f = at-width cs 12 a m e in
     let t = take 12 cs in
-    let other = first-same 11 cs h in
-    let v : isTemplate t ≡ true = rw other at (f .1) in
+    let other : eqb (getD t 0 0) 0x50 ≡ false = ap (λ (c : ℕ). eqb c 0x50) (first-same 11 cs) ∙ h in
+    let v : isTemplate t ≡ true = template-formed t other (f .1) in
     let p = template-parts t v in
     let long : length t ≡ 12 = length-take-le 12 cs (f .0) in
     record {
@@ -187,7 +204,7 @@ by-mark cs a m false h e =
 
 data-only : (cs : List ℕ) (a : Shape) (m : ℕ) → validationField cs ≡ done (a, m) → Opens validations cs m a
 unfolding validationField
-data-only cs a m e = by-mark cs a m (marked 0x50 cs) refl e
+data-only cs a m e = by-mark cs a m (eqb (getD cs 0 0) 0x50) refl e
 
 -- ---- no two parts write the same
 
@@ -213,11 +230,11 @@ data-exact = record {
 
 pub row-of-parts : (account : List ℕ) (v : Validation) → IsValidation v → validationRow account (validationText v) ≡ done (validationNibbles account v)
 unfolding validationRow
-row-of-parts account (withP cs) g = rw (eq-eqb (suc (length cs)) 17 (omega (arith, g .0)), g .1)
+row-of-parts account (withP cs) g = ap (shaped account (0x50 ∷ cs)) (whole-valid cs (g .0) (g .1) .1)
 row-of-parts account (withN front back) g =
     let t = front ++ (0x4E ∷ back) in
     let h = all-both CapitalHex front back (g .1) in
     let long : length t ≡ 12 = length-append front (0x4E ∷ back) ∙ omega (arith, g .0, length-append front back) in
     let v = template-valid front back long (h .0) (h .1) in
-    rw (first-other front back [] (h .0) .0, v .0, v .1, take-append-seam front (0x4E ∷ back), past-front front 0x4E back)
+    rw (shape-template t (first-led front back (h .0)) (v .0), v .1, take-append-seam front (0x4E ∷ back), past-front front 0x4E back)
     (ap done (append-assoc (map valueOf front) (lastOf 5 account) (map valueOf back)))

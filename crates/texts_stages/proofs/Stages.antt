@@ -14,7 +14,7 @@ use Rattle.alphabet.specs.Alphabet.{begins}
 use Rattle.alphabet.specs.declared.Class.the-variants.{Digit, CapitalHex}
 use Rattle.numbers.specs.declared.Refusal.the-variants.{Field15, Table25}
 use Rattle.formats.specs.declared.Format.{Format}
-use Rattle.validation.specs.Answers.{shapeWidth}
+use Rattle.validation.specs.Validation.{shapeWidth}
 use Rattle.validation.specs.declared.Shape.{Shape}
 use Rattle.fields.specs.Fields.{read, faulty, run, number, trailer}
 use Rattle.fields.proofs.Reading.{read-once}

@@ -9,23 +9,22 @@ use mathlib.Core.Bool.{Bool, true, false, _&&_, cond}
 use lib.ListN.{length, getD, take, drop, length-map, length-append, length-drop}
 use lib.Seq.{slice, take-all, length-take-le}
 use lib.Dec.{leb, eqb, lit≤}
-use borrow.Author.Tests.{leb-true, eqb-true, eq-eqb, ne-eqb}
+use borrow.Author.Tests.{leb-true, eqb-true, eqb-false, eq-eqb, ne-eqb}
 use Rattle.nibbles.specs.Nibbles.{row, word, packs}
 use Rattle.nibbles.proofs.Lists.{Below, and-left, and-right, map-below, below-drop}
 use Rattle.nibbles.proofs.Rows.{row-length, row-below, row-take, word-lt, word-under, word-append}
-use Rattle.alphabet.specs.Alphabet.{allOf, valueOf}
+use Rattle.alphabet.specs.Alphabet.{allOf, begins, valueOf}
 use Rattle.alphabet.proofs.Laws.{value-below}
 use Rattle.alphabet.specs.declared.Class.the-variants.{CapitalHex}
 use Rattle.numbers.specs.Numbers.{Outcome, done, refused, andThen, unless}
 use Rattle.numbers.proofs.Laws.{passed, then-done, value-of}
-use Rattle.numbers.specs.declared.Refusal.the-variants.{Field15, Room901}
+use Rattle.numbers.specs.declared.Refusal.the-variants.{Room901}
 use Rattle.pins.specs.Pins.{lastOf, accountOf}
 use Rattle.pins.specs.Answers.{rowOf}
 use Rattle.pins.proofs.Laws.{account-done}
 use Rattle.blocks.specs.Answers.{blockOf}
 use Rattle.blocks.proofs.Laws.{Sixteen, sixteen-nibs}
-use Rattle.validation.specs.Validation.{letterP, letterN, hexEnd, isTemplate, replaced, isWhole, isValidation, validationRow, validationBlock}
-use Rattle.validation.specs.Answers.{shapeOf, shapeWidth}
+use Rattle.validation.specs.Validation.{letterP, letterN, hexEnd, isTemplate, isWhole, shapeOf, shapeWidth, formed, isValidation, replaced, shaped, validationRow, validationBlock}
 use Rattle.validation.specs.declared.Shape.{Shape}
 use Rattle.validation.specs.declared.Shape.the-variants.{Template, Whole, Neither}
 
@@ -47,10 +46,8 @@ values-below = map-below 16 valueOf value-below
 
 -- ---- a row of sixteen
 
-whole-sixteen : (cs : List ℕ) → isWhole cs ≡ true → Sixteen (map valueOf (drop 1 cs))
-whole-sixteen cs e =
-    let l = eqb-true (length cs) 17 (and-left (eqb (length cs) 17) (allOf CapitalHex (drop 1 cs)) e) in
-    record { long = values-length (drop 1 cs) ∙ length-drop 1 cs ∙ omega arith; nibbles = values-below (drop 1 cs) }
+whole-sixteen : (cs : List ℕ) → length cs ≡ 17 → Sixteen (map valueOf (drop 1 cs))
+whole-sixteen cs l = record { long = values-length (drop 1 cs) ∙ length-drop 1 cs ∙ omega arith; nibbles = values-below (drop 1 cs) }
 
 -- what a template's test tells: twelve characters, and the N is one of them
 template-place : (cs : List ℕ) → isTemplate cs ≡ true → (length cs ≡ 12) × (hexEnd cs < 12)
@@ -63,71 +60,35 @@ template-place cs e =
     let h = here cs p 0x4D n in
     (l, omega arith)
 
-replaced-long : (ds cs : List ℕ) → length ds ≡ 12 → isTemplate cs ≡ true → length (replaced ds cs) ≡ 16
-replaced-long ds cs d e =
-    let p = hexEnd cs in
-    let front = map valueOf (take p cs) in
-    let back = map valueOf (drop (suc p) cs) in
-    let t = template-place cs e in
-    let f : length front ≡ p = values-length (take p cs) ∙ length-take-le p cs (omega arith) in
-    let k : length back ≡ 12 - suc p = values-length (drop (suc p) cs) ∙ length-drop (suc p) cs ∙ ap (λ (n : ℕ). n - suc p) (t .0) in
+replaced-long : (ds cs : List ℕ) (at : ℕ) → length ds ≡ 12 → length cs ≡ 12 → at < 12 → length (replaced ds at cs) ≡ 16
+replaced-long ds cs at d l h =
+    let front = map valueOf (take at cs) in
+    let back = map valueOf (drop (suc at) cs) in
+    let f : length front ≡ at = values-length (take at cs) ∙ length-take-le at cs (omega arith) in
+    let k : length back ≡ 12 - suc at = values-length (drop (suc at) cs) ∙ length-drop (suc at) cs ∙ ap (λ (n : ℕ). n - suc at) l in
     let m : length (lastOf 5 ds) ≡ 5 = length-drop (length ds - 5) ds ∙ omega arith in
     length-append (front ++ lastOf 5 ds) back ∙ (let a = length-append front (lastOf 5 ds) in omega arith)
 
-replaced-sixteen : (ds cs : List ℕ) → length ds ≡ 12 → Below 16 ds → isTemplate cs ≡ true → Sixteen (replaced ds cs)
-replaced-sixteen ds cs d b e =
-    let p = hexEnd cs in
-    let front = map valueOf (take p cs) in
-    let back = map valueOf (drop (suc p) cs) in
+replaced-sixteen : (ds cs : List ℕ) (at : ℕ) → length ds ≡ 12 → Below 16 ds → length cs ≡ 12 → at < 12 → Sixteen (replaced ds at cs)
+replaced-sixteen ds cs at d b l h =
+    let front = map valueOf (take at cs) in
+    let back = map valueOf (drop (suc at) cs) in
     record {
-      long = replaced-long ds cs d e;
-      nibbles = below-append 16 (front ++ lastOf 5 ds) back (below-append 16 front (lastOf 5 ds) (values-below (take p cs)) (below-drop 16 (length ds - 5) ds b)) (values-below (drop (suc p) cs));
+      long = replaced-long ds cs at d l h;
+      nibbles = below-append 16 (front ++ lastOf 5 ds) back (below-append 16 front (lastOf 5 ds) (values-below (take at cs)) (below-drop 16 (length ds - 5) ds b)) (values-below (drop (suc at) cs));
     }
-
-pub row-sixteen : (ds cs ns : List ℕ) → length ds ≡ 12 → Below 16 ds → validationRow ds cs ≡ done ns → Sixteen ns
-unfolding validationRow
-row-sixteen ds cs ns d b = go (eqb (getD cs 0 0) letterP)
-  where
-    go : (led : Bool) → cond led (unless Field15 (isWhole cs) (map valueOf (drop 1 cs))) (unless Field15 (isTemplate cs) (replaced ds cs)) ≡ done ns → Sixteen ns
-    go true e = let p = passed Field15 (isWhole cs) (map valueOf (drop 1 cs)) ns e in rw (← p .1) (whole-sixteen cs (p .0))
-    go false e = let p = passed Field15 (isTemplate cs) (replaced ds cs) ns e in rw (← p .1) (replaced-sixteen ds cs d b (p .0))
 
 -- ---- what validation data are
 
--- whether a shape is that of validation data
-abbrev formed : Shape → Bool
-formed (Template at) = true
-formed Whole = true
-formed Neither = false
-
-formed-valid : (cs : List ℕ) → isValidation cs ≡ formed (shapeOf cs)
-unfolding shapeOf
-formed-valid cs = go (eqb (getD cs 0 0) letterP) (isWhole cs) (isTemplate cs)
+-- a P at the beginning is the first character
+pub led-by-p : (cs : List ℕ) → begins (letterP ∷ []) cs ≡ eqb (getD cs 0 0) letterP
+unfolding begins
+led-by-p [] = refl
+led-by-p (c ∷ cs) = go (eqb c letterP) refl
   where
-    go : (led whole template : Bool) → cond led whole template ≡ formed (cond led (cond whole Whole Neither) (cond template (Template (hexEnd cs)) Neither))
-    go true true template = refl
-    go true false template = refl
-    go false whole true = refl
-    go false whole false = refl
-
--- either of the two shapes is validation data
-pub shape-template : (cs : List ℕ) (at : ℕ) → shapeOf cs ≡ Template at → isValidation cs ≡ true
-shape-template cs at e = formed-valid cs ∙ ap formed e
-
-pub shape-whole : (cs : List ℕ) → shapeOf cs ≡ Whole → isValidation cs ≡ true
-shape-whole cs e = formed-valid cs ∙ ap formed e
-
--- what has neither shape is malformed, and only that
-pub shape-neither : (cs : List ℕ) → shapeOf cs ≡ Neither → isValidation cs ≡ false
-shape-neither cs e = formed-valid cs ∙ ap formed e
-
-pub malformed-neither : (cs : List ℕ) → isValidation cs ≡ false → shapeOf cs ≡ Neither
-malformed-neither cs e = go (shapeOf cs) (sym (formed-valid cs) ∙ e)
-  where
-    go : (s : Shape) → formed s ≡ false → s ≡ Neither
-    go (Template at) h = absurd (let z : _≡_ {A = ℕ} 0 1 = cc in omega arith)
-    go Whole h = absurd (let z : _≡_ {A = ℕ} 0 1 = cc in omega arith)
-    go Neither h = refl
+    go : (b : Bool) → eqb c letterP ≡ b → (eqb letterP c && true) ≡ b
+    go true e = rw (eq-eqb letterP c (sym (eqb-true c letterP e)))
+    go false e = rw (ne-eqb letterP c (λ h. eqb-false c letterP e (sym h)))
 
 -- what each shape tells of the characters' number
 abbrev Measured : List ℕ → Shape → Type 0
@@ -155,7 +116,7 @@ shape-seventeen cs e = subst (Measured cs) e (measured cs)
 
 -- validation data are as long as their shape is wide
 pub shape-long : (cs : List ℕ) → isValidation cs ≡ true → shapeWidth (shapeOf cs) ≡ length cs
-shape-long cs e = go (shapeOf cs) (measured cs) (sym (formed-valid cs) ∙ e)
+shape-long cs e = go (shapeOf cs) (measured cs) e
   where
     go : (s : Shape) → Measured cs s → formed s ≡ true → shapeWidth s ≡ length cs
     go (Template at) m f = sym (m .0)
@@ -164,35 +125,25 @@ shape-long cs e = go (shapeOf cs) (measured cs) (sym (formed-valid cs) ∙ e)
 
 -- ---- the row that validation data stand for
 
--- the row that each shape gives
-abbrev pub shaped : List ℕ → List ℕ → Shape → Outcome (List ℕ)
-shaped account cs (Template at) = done (map valueOf (take at cs) ++ lastOf 5 account ++ map valueOf (drop (suc at) cs))
-shaped account cs Whole = done (map valueOf (drop 1 cs))
-shaped account cs Neither = refused Field15
-
-pub row-shaped : (account cs : List ℕ) → validationRow account cs ≡ shaped account cs (shapeOf cs)
-unfolding validationRow shapeOf
-row-shaped account cs = go (eqb (getD cs 0 0) letterP) (isWhole cs) (isTemplate cs)
+-- it is one of sixteen nibbles
+pub row-sixteen : (ds cs ns : List ℕ) → length ds ≡ 12 → Below 16 ds → validationRow ds cs ≡ done ns → Sixteen ns
+unfolding validationRow
+row-sixteen ds cs ns d b e = go (shapeOf cs) (measured cs) e
   where
-    go :
-        (led whole template : Bool)
-        → cond led (unless Field15 whole (map valueOf (drop 1 cs))) (unless Field15 template (replaced account cs))
-        ≡ shaped account cs (cond led (cond whole Whole Neither) (cond template (Template (hexEnd cs)) Neither))
-    go true true template = refl
-    go true false template = refl
-    go false whole true = refl
-    go false whole false = refl
+    go : (s : Shape) → Measured cs s → shaped ds cs s ≡ done ns → Sixteen ns
+    go (Template at) m h = subst Sixteen (value-of h) (replaced-sixteen ds cs at d b (m .0) (m .1))
+    go Whole m h = subst Sixteen (value-of h) (whole-sixteen cs m)
+    go Neither m h = absurd (let z : _≡_ {A = ℕ} 0 1 = cc in omega arith)
 
 -- validation data have a row, of sixteen for an account of twelve
 pub row-of-valid : (account cs : List ℕ) → isValidation cs ≡ true → (ns : List ℕ) × (validationRow account cs ≡ done ns) × (length account ≡ 12 → length ns ≡ 16)
 unfolding validationRow
-row-of-valid account cs = go (eqb (getD cs 0 0) letterP)
+row-of-valid account cs e = go (shapeOf cs) (measured cs) e
   where
-    go :
-        (led : Bool) → cond led (isWhole cs) (isTemplate cs) ≡ true
-        → (ns : List ℕ) × (cond led (unless Field15 (isWhole cs) (map valueOf (drop 1 cs))) (unless Field15 (isTemplate cs) (replaced account cs)) ≡ done ns) × (length account ≡ 12 → length ns ≡ 16)
-    go true e = (map valueOf (drop 1 cs), rw e, λ d. whole-sixteen cs e .long)
-    go false e = (replaced account cs, rw e, λ d. replaced-long account cs d e)
+    go : (s : Shape) → Measured cs s → formed s ≡ true → (ns : List ℕ) × (shaped account cs s ≡ done ns) × (length account ≡ 12 → length ns ≡ 16)
+    go (Template at) m f = (replaced account at cs, refl, λ d. replaced-long account cs at d (m .0) (m .1))
+    go Whole m f = (map valueOf (drop 1 cs), refl, λ d. whole-sixteen cs m .long)
+    go Neither m f = absurd (let z : _≡_ {A = ℕ} 0 1 = cc in omega arith)
 
 -- ---- the call
 

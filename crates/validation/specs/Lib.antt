@@ -1,2 +1,1 @@
 pub mod Validation
-pub mod Answers

@@ -1,17 +1,13 @@
 // Validation data, and the block that the key box enciphers to make a natural PIN.
 ghost use mathlib.Core.Path.{_≡_};
-ghost use mathlib.Core.List.{_++_, map};
 ghost use mathlib.Core.Bool.{cond};
-ghost use Prim.Native.Nat.{suc, _<_};
-ghost use lib.ListN.{length, take, drop};
+ghost use Prim.Native.Nat.{_<_};
+ghost use lib.ListN.{length};
 ghost use Rattle.nibbles.specs.Nibbles.{word, row};
-ghost use Rattle.alphabet.specs.Alphabet.{valueOf};
 ghost use Rattle.numbers.specs.Promise.{Does, quietly};
-ghost use Rattle.pins.specs.Pins.{lastOf};
 ghost use Rattle.pins.specs.Answers.{rowOf};
 ghost use Rattle.blocks.specs.Answers.{blockOf};
-ghost use Rattle.validation.specs.Validation.{hexEnd, isTemplate, isWhole, validationRow, validationBlock};
-ghost use Rattle.validation.specs.Answers.{shapeOf, shapeWidth};
+ghost use Rattle.validation.specs.Validation.{hexEnd, isTemplate, isWhole, shapeOf, shapeWidth, replaced, validationRow, validationBlock};
 use alphabet::Class;
 use numbers::Refusal;
 use numbers::Reply;
@@ -27,7 +23,7 @@ pub enum Shape {
 // The values of twelve characters, with the last five account digits for the one at a place.
 fn with_account(account: u64, s: &[u8], at: usize) -> u64
     requires { ⌜ (length (now s) ≡ 12) × (at < 12) ⌝ }
-    ensures { λ r. ⌜ r ≡ word (map valueOf (take at (now (s .entry))) ++ lastOf 5 (row 12 account) ++ map valueOf (drop (suc at) (now (s .entry)))) ⌝ }
+    ensures { λ r. ⌜ r ≡ word (replaced (row 12 account) at (now (s .entry))) ⌝ }
 {
     let behind = at + 1;
     let front = pins::values(&s[..at]);

@@ -7,8 +7,7 @@ use lib.ListN.{take, drop}
 use borrow.Author.Needs.{needs}
 use Rattle.nibbles.specs.Nibbles.{row}
 use Rattle.pins.specs.Answers.{rowOf}
-use Rattle.validation.specs.Validation.{validationRow}
-use Rattle.validation.specs.Answers.{shapeOf, shapeWidth}
+use Rattle.validation.specs.Validation.{shapeOf, shapeWidth, validationRow}
 use Rattle.responses.specs.Answers.{askedRow, askedOf}
 use Rattle.responses.specs.declared.Asked.the-variants.{Bad}
 use Rattle.bk.specs.Answers.{fieldsFault}

@@ -1,9 +1,9 @@
 -- `stages::validation_field` meets its contract.
 -- Assumes nothing.
 use native.Mathlib.Omega.{arith}
-use mathlib.Core.Path.{sym, _∙_}
+use mathlib.Core.Path.{sym, ap, _∙_}
 use lib.ListN.{drop}
-use Rattle.validation.proofs.Laws.{shape-template, shape-whole, shape-neither}
+use Rattle.validation.specs.Validation.{formed}
 use Rattle.stages.proofs.Reading.{width-bounds, validation-short, validation-whole, validation-wrong}
 use borrow.Author.Needs.{needs}
 use Rattle.stages.proofs.validation_field.Statement.{statement}
@@ -49,17 +49,17 @@ enum-told-3 c = search needs
 returns-2 : tie.Need-returns-2
 returns-2 c =
     let a = c .before .before .before .before .before .before .before .before .args in
-    validation-whole (a .command .now) (a .cursor .at) _ (c .before .before .before .before .before .before .validation-width .ensures) (omega arith) _ (c .before .before .of .ensures) (shape-template _ _ (sym (c .before .before .of .ensures) ∙ c .enum-told .given .1))
+    validation-whole (a .command .now) (a .cursor .at) _ (c .before .before .before .before .before .before .validation-width .ensures) (omega arith) _ (c .before .before .of .ensures) (ap formed (sym (c .before .before .of .ensures) ∙ c .enum-told .given .1))
 
 returns-3 : tie.Need-returns-3
 returns-3 c =
     let a = c .before .before .before .before .before .before .before .before .args in
-    validation-whole (a .command .now) (a .cursor .at) _ (c .before .before .before .before .before .before .validation-width .ensures) (omega arith) _ (c .before .before .of .ensures) (shape-whole _ (sym (c .before .before .of .ensures) ∙ c .enum-told2 .given .1))
+    validation-whole (a .command .now) (a .cursor .at) _ (c .before .before .before .before .before .before .validation-width .ensures) (omega arith) _ (c .before .before .of .ensures) (ap formed (sym (c .before .before .of .ensures) ∙ c .enum-told2 .given .1))
 
 returns-4 : tie.Need-returns-4
 returns-4 c =
     let a = c .before .before .before .before .before .before .before .before .args in
-    validation-wrong (a .command .now) (a .cursor .at) _ (c .before .before .before .before .before .before .validation-width .ensures) (omega arith) (shape-neither _ (sym (c .before .before .of .ensures) ∙ c .enum-told3 .given .1))
+    validation-wrong (a .command .now) (a .cursor .at) _ (c .before .before .before .before .before .before .validation-width .ensures) (omega arith) (ap formed (sym (c .before .before .of .ensures) ∙ c .enum-told3 .given .1))
 
 pub validation-field-spec : {M : Type 1} → statement M
 validation-field-spec =

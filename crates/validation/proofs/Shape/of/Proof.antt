@@ -4,7 +4,7 @@ use mathlib.Core.Path.{sym}
 use borrow.Author.Tests.{eq-eqb, ne-eqb}
 use borrow.Author.Needs.{needs}
 use Rattle.validation.proofs.Laws.{shape-none}
-use Rattle.validation.specs.Answers.{shapeOf}
+use Rattle.validation.specs.Validation.{shapeOf}
 use Rattle.validation.proofs.Shape.of.Statement.{statement}
 use Rattle.validation.proofs.Shape.of.Tie as tie
 

@@ -5,10 +5,11 @@ use native.Mathlib.Omega.{arith}
 use mathlib.Core.List.{List, map}
 use mathlib.Core.Path.{ap, sym, _∙_}
 use borrow.Author.Needs.{needs}
-use Rattle.validation.proofs.Laws.{behind, shape-twelve, shape-seventeen, row-shaped}
+use Rattle.validation.proofs.Laws.{behind, shape-twelve, shape-seventeen}
 use Rattle.pins.specs.declared.Row.the-variants.{Held}
 use Rattle.alphabet.specs.Alphabet.{valueOf}
-use Rattle.nibbles.specs.Nibbles.{row, word}
+use Rattle.nibbles.specs.Nibbles.{word}
+use Rattle.validation.specs.Validation.{validationRow}
 use Rattle.validation.proofs.Shape.row.Statement.{statement}
 use Rattle.validation.proofs.Shape.row.Tie as tie
 
@@ -37,20 +38,23 @@ enum-told-2 : tie.Need-enum-told-2
 enum-told-2 c = search needs
 
 returns : tie.Need-returns
+unfolding validationRow
 returns c =
     let a = c .before .before .before .before .before .args in
-    rw (row-shaped (row 12 (a .account)) (a .validation .now), sym (c .before .before .before .before .before .pre) ∙ c .before .before .self .given .1) (ap Held (c .with-account .ensures))
+    rw (sym (c .before .before .before .before .before .pre) ∙ c .before .before .self .given .1) (ap Held (c .with-account .ensures))
 
 returns-2 : tie.Need-returns-2
+unfolding validationRow
 returns-2 c =
     let a = c .before .before .before .before .before .args in
-    rw (row-shaped (row 12 (a .account)) (a .validation .now), sym (c .before .before .before .before .before .pre) ∙ c .before .before .enum-told .given .1)
+    rw (sym (c .before .before .before .before .before .pre) ∙ c .before .before .enum-told .given .1)
     (ap Held (c .values .ensures ∙ ap (λ (cs : List ℕ). word (map valueOf cs)) (behind 1 (a .validation .now))))
 
 returns-3 : tie.Need-returns-3
+unfolding validationRow
 returns-3 c =
     let a = c .before .before .before .args in
-    rw (row-shaped (row 12 (a .account)) (a .validation .now), sym (c .before .before .before .pre) ∙ c .enum-told2 .given .1)
+    rw (sym (c .before .before .before .pre) ∙ c .enum-told2 .given .1)
 
 pub row-spec : {M : Type 1} → statement M
 row-spec =
