@@ -7,6 +7,7 @@ use mathlib.Core.List.{List, [], _∷_, _++_, map}
 use mathlib.Core.Bool.{Bool, true, false, _&&_, cond}
 use lib.ListN.{length, take, drop, replicate, length-map, length-drop, take-append-drop}
 use lib.Seq.{length-take-le}
+use lib.IntN.{ℤ}
 use lib.Dec.{leb, eqb}
 use borrow.Author.Tests.{lt-leb, le-leb, eqb-true}
 use Rattle.nibbles.specs.Nibbles.{within, every, leading, same}
@@ -19,10 +20,12 @@ use Rattle.numbers.specs.declared.Refusal.the-variants.{Unverified01, Field15, 
 use Rattle.numbers.proofs.Laws.{passed, then-done}
 use Rattle.pins.specs.Pins.{sized}
 use Rattle.ibm3624.specs.Ibm3624.{covers, covered, offsetOf, offsetText, moduloTen, digitEnd, offsetPresented}
-use Rattle.offsets.specs.Offsets.{digitsGiven, offsetJudged, digitsJudged, differencesOf, spelt}
+use Rattle.offsets.specs.Offsets.{digitsGiven, offsetJudged, spelt}
 use Rattle.verdicts.specs.Verdicts.{offsetVerdict}
+use Rattle.offsets.proofs.Laws.{offset-parts, digits-parts, differences-parts}
 use Rattle.verdicts.proofs.Laws.{verdict-done}
-use Rattle.pvv.specs.Pvv.{pvvOf, presented, pvvGiven, pinRead, pvvMade, pvvVerdict}
+use Rattle.pvv.proofs.Laws.{pvv-parts}
+use Rattle.pvv.specs.Pvv.{pvvOf, presented, pvvGiven, pinRead, pvvMade}
 use Rattle.claims_offsets.specs.Claims.{VerdictIsOffset, PvvVerdictIsPvv, OffsetIsReduced}
 use Rattle.claims_offsets.proofs.Texts.{offset-verifies}
 
@@ -83,12 +86,11 @@ presented-text cs os e =
 made-by-verdict :
     (variable : Bool) (code check : ℕ) (block account table enciphered offset : List ℕ) (room : ℕ) → 12 ≤ room
     → offsetVerdict variable code check block account table enciphered offset ≡ done [] → spelt (offsetJudged variable code check block account table enciphered room) ≡ done offset
-unfolding offsetJudged
 made-by-verdict variable code check block account table enciphered offset room r e =
     let v = verdict-done variable code check block account table enciphered offset [] e in
     let made = offsetOf (v .3) (v .2 .0) (v .2 .1) in
     let same-digits = same-true (v .1) made (passed Unverified01 (same (v .1) made) [] [] (v .8) .0) in
-    rw (le-leb 12 room r, v .4, v .6, v .7) (ap done (ap offsetText (sym same-digits) ∙ presented-text offset (v .1) (v .5)))
+    rw (offset-parts variable check room code block account table enciphered, le-leb 12 room r, v .4, v .6, v .7) (ap done (ap offsetText (sym same-digits) ∙ presented-text offset (v .1) (v .5)))
 
 pub verdict-is-offset : VerdictIsOffset
 verdict-is-offset variable code check block account table enciphered offset room b c r = (
@@ -97,9 +99,9 @@ verdict-is-offset variable code check block account table enciphered offset room
 )
 
 pub pvv-verdict-is-pvv : PvvVerdictIsPvv
-unfolding pvvVerdict pvvMade
+unfolding pvvMade
 pvv-verdict-is-pvv code index block account enciphered pvv room r e =
-    let g = then-done (pvvGiven code index block account) _ [] e in
+    let g = then-done (pvvGiven code index block account) _ [] (sym (pvv-parts code index block account enciphered pvv) ∙ e) in
     let m = then-done (sized 8 enciphered) _ [] (g .2) in
     let p = then-done (presented pvv) _ [] (m .2) in
     let d = then-done (pinRead code (g .0)) _ [] (p .2) in
@@ -111,8 +113,9 @@ pvv-verdict-is-pvv code index block account enciphered pvv room r e =
 -- ---- the two calls on digits
 
 pub offset-is-reduced : OffsetIsReduced
-unfolding digitsJudged differencesOf
-offset-is-reduced variable check pin natural room = go (leb 12 room) (digitsGiven check pin natural)
+offset-is-reduced variable check pin natural room =
+    ap spelt (digits-parts variable check room pin natural) ∙ go (leb 12 room) (digitsGiven check pin natural)
+    ∙ ap (λ (o : Outcome (List ℤ)). andThen o (λ zs. done (offsetText (map moduloTen zs)))) (sym (differences-parts variable check room pin natural))
   where
     by-count : (p : List ℕ × List ℕ) (o : Outcome ℕ)
         → spelt (andThen o (λ m. done (offsetOf m (p .0) (p .1)))) ≡ andThen (andThen o (λ m. done (covered m (p .0) (p .1)))) (λ zs. done (offsetText (map moduloTen zs)))

@@ -12,7 +12,7 @@ use Rattle.alphabet.specs.Alphabet.{allOf, valueOf}
 use Rattle.formats.specs.Formats.{codeOf}
 use Rattle.blocks.specs.Blocks.{contents, readRow}
 use Rattle.ibm3624.specs.Ibm3624.{differences}
-use Rattle.offsets.specs.Offsets.{given, pinWithNatural, pinAndNatural, offsetJudged, offsetMade}
+use Rattle.offsets.specs.Offsets.{offsetJudged, offsetMade}
 use Rattle.pvv.specs.Pvv.{those, pvvOf, pvvMade}
 use Rattle.claims_blocks.specs.Figures.{usualAccount}
 use Rattle.claims_blocks.proofs.Promises.{only-00, apart}
@@ -34,14 +34,14 @@ pvv-room enciphered room h = rw (le-leb 4 room h)
 -- ---- the cores
 
 pub offsets-not-refusing : OffsetsNotRefusing
-unfolding nibs xors every leading allOf valueOf codeOf contents readRow differences given pinWithNatural pinAndNatural offsetJudged those pvvOf pvvMade
+unfolding nibs xors every leading allOf valueOf codeOf contents readRow differences offsetJudged those pvvOf pvvMade
 offsets-not-refusing = (
   λ before h. only-00 before (offset-room false 1 4 blockP2 usualAccount tableP9 encipheredP9 (length before) h ∙ refl),
   λ before h. only-00 before (pvv-room encipheredP11 (length before) h ∙ refl),
 )
 
 pub offsets-not-fixed : OffsetsNotFixed
-unfolding nibs xors every leading allOf valueOf codeOf contents readRow differences given pinWithNatural pinAndNatural offsetJudged those pvvOf pvvMade
+unfolding nibs xors every leading allOf valueOf codeOf contents readRow differences offsetJudged those pvvOf pvvMade
 offsets-not-fixed = (
   λ before h. apart before (offset-room false 1 4 blockP2 usualAccount tableP9 encipheredP9 (length before) h ∙ refl)
       (offset-room false 1 5 blockP2 usualAccount tableP9 encipheredP9 (length before) h ∙ refl) (omega arith),

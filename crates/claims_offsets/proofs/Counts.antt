@@ -22,7 +22,7 @@ use Rattle.blocks.proofs.Laws.{Blocky, read-pinned, sixteen-bytes, bytes-sixtee
 use Rattle.ibm3624.specs.Ibm3624.{tableSized, tableOf, naturalPin, checkLength, covers, differences, covered, moduloTen, offsetOf, offsetText}
 use Rattle.ibm3624.proofs.Laws.{covered-many, natural-done, natural-long, text-length}
 use Rattle.offsets.specs.Offsets.{given, pinWithNatural, pinAndNatural, digitsGiven, offsetFor, offsetJudged, digitsJudged, offsetMade, offsetOfDigits, differencesOf}
-use Rattle.offsets.proofs.Laws.{digits-alike, covers-within}
+use Rattle.offsets.proofs.Laws.{offset-parts, digits-parts, differences-parts, digits-alike, covers-within}
 use Rattle.pvv.specs.Pvv.{pvvOf, pvvInput, pvvMade}
 use Rattle.pvv.proofs.Laws.{pvv-length, call-input}
 use Rattle.claims_blocks.specs.Claims.{IsBytes}
@@ -98,20 +98,18 @@ pair-short code table g p h k e =
 
 pub made-twelve : (variable : Bool) (code check : ℕ) (block account table enciphered : List ℕ) (room : ℕ) (w : List ℕ)
     → offsetMade variable code check block account table enciphered room ≡ done w → length w ≡ 12
-unfolding offsetJudged
 made-twelve variable code check block account table enciphered room w e =
     let o = then-done (offsetJudged variable code check block account table enciphered room) _ w e in
-    let r = then-done (unless Room901 (leb 12 room) room) _ (o .0) (o .1) in
+    let r = then-done (unless Room901 (leb 12 room) room) _ (o .0) (sym (offset-parts variable check room code block account table enciphered) ∙ o .1) in
     let g = then-done (given code check block account table enciphered) _ (o .0) (r .2) in
     let p = then-done (pinAndNatural code table (g .0)) _ (o .0) (g .2) in
     let rows = given-rows code check block account table enciphered (g .0) (g .1) in
     text-twelve variable check (p .0) (o .0) w (pair-short code table (g .0) (p .0) (rows .0) (rows .1) (p .1)) (p .2) (o .2)
 
 pub of-digits-twelve : (variable : Bool) (check : ℕ) (pin natural : List ℕ) (room : ℕ) (w : List ℕ) → offsetOfDigits variable check pin natural room ≡ done w → length w ≡ 12
-unfolding digitsJudged
 of-digits-twelve variable check pin natural room w e =
     let o = then-done (digitsJudged variable check pin natural room) _ w e in
-    let r = then-done (unless Room901 (leb 12 room) room) _ (o .0) (o .1) in
+    let r = then-done (unless Room901 (leb 12 room) room) _ (o .0) (sym (digits-parts variable check room pin natural) ∙ o .1) in
     let p = then-done (digitsGiven check pin natural) _ (o .0) (r .2) in
     text-twelve variable check (p .0) (o .0) w (digits-alike check pin natural (p .0) (p .1) .pin .short) (p .2) (o .2)
 
@@ -133,9 +131,8 @@ unfolding given
 given-check code check block account table enciphered g e = let c = then-done (checkLength check) _ g e in check-least check (c .0) (c .1)
 
 pub differences-counts : (variable : Bool) (check : ℕ) (pin natural : List ℕ) (room : ℕ) (zs : List ℤ) → differencesOf variable check pin natural room ≡ done zs → FourToTwelve (length zs)
-unfolding differencesOf
 differences-counts variable check pin natural room zs e =
-    let r = then-done (unless Room901 (leb 12 room) room) _ zs e in
+    let r = then-done (unless Room901 (leb 12 room) room) _ zs (sym (differences-parts variable check room pin natural) ∙ e) in
     let p = then-done (digitsGiven check pin natural) _ zs (r .2) in
     let ps = p .0 .0 in
     let qs = p .0 .1 in

@@ -2,7 +2,7 @@
 -- Assumes nothing.
 use Prim.Native.Nat.{ℕ, _+_, _-_, _%_, _≤_}
 use native.Mathlib.Nat.{le-of-suc-le-suc}
-use mathlib.Core.Path.{_≡_, refl, ap, subst}
+use mathlib.Core.Path.{_≡_, refl, sym, ap, _∙_, subst}
 use mathlib.Core.List.{List, [], _∷_, map}
 use mathlib.Core.Bool.{Bool, true}
 use lib.ListN.{length}
@@ -16,8 +16,8 @@ use Rattle.numbers.proofs.Laws.{passed, then-done, value-of}
 use Rattle.pins.specs.Pins.{lastOf}
 use Rattle.ibm3624.specs.Ibm3624.{covers, difference, differences, covered, moduloTen}
 use Rattle.ibm3624.proofs.Signed.{at-digits}
-use Rattle.offsets.specs.Offsets.{digitsGiven, digitsJudged, differencesOf}
-use Rattle.offsets.proofs.Laws.{digits-alike}
+use Rattle.offsets.specs.Offsets.{digitsGiven, differencesOf}
+use Rattle.offsets.proofs.Laws.{digits-parts, differences-parts, digits-alike}
 use Rattle.claims_offsets.specs.Claims.{ReducedDifferences, NineAtMost, DifferenceRange, ModuloTen}
 
 pub modulo-ten : ModuloTen
@@ -39,18 +39,16 @@ module _ (variable : Bool) (check : ℕ) (pin natural : List ℕ) (room : ℕ) (
   viewed :
       (p : List ℕ × List ℕ) × (m : ℕ) × (leb 12 room ≡ true) × (digitsGiven check pin natural ≡ done p) × (covers variable check (length (p .0)) ≡ done m)
       × (covered m (p .0) (p .1) ≡ zs)
-  unfolding differencesOf
   viewed =
-      let r = then-done (unless Room901 (leb 12 room) room) _ zs e in
+      let r = then-done (unless Room901 (leb 12 room) room) _ zs (sym (differences-parts variable check room pin natural) ∙ e) in
       let p = then-done (digitsGiven check pin natural) _ zs (r .2) in
       let t = then-done (covers variable check (length (p .0 .0))) _ zs (p .2) in
       (p .0, t .0, passed Room901 (leb 12 room) room (r .0) (r .1) .0, p .1, t .1, value-of (t .2))
 
 pub reduced-differences : ReducedDifferences
-unfolding digitsJudged
 reduced-differences variable check pin natural room zs e =
     let v = viewed variable check pin natural room zs e in
-    rw (v .2, v .3, v .4) (ap (λ (xs : List ℤ). done (map moduloTen xs)) (v .5))
+    rw (digits-parts variable check room pin natural, v .2, v .3, v .4) (ap (λ (xs : List ℤ). done (map moduloTen xs)) (v .5))
 
 pub difference-range : DifferenceRange
 difference-range variable check pin natural room zs e =

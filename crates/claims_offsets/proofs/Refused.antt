@@ -6,6 +6,7 @@ use mathlib.Core.Logic.{inl, inr}
 use mathlib.Core.List.{List, [], map}
 use mathlib.Core.Bool.{Bool, true, false, _&&_}
 use lib.ListN.{length, take, drop}
+use lib.IntN.{ℤ}
 use lib.Dec.{leb, eqb}
 use Rattle.nibbles.specs.Nibbles.{nibs, packs, within, every, same}
 use Rattle.alphabet.specs.Alphabet.{allOf, valueOf}
@@ -24,7 +25,10 @@ use Rattle.validation.specs.declared.Shape.{Shape}
 use Rattle.validation.specs.declared.Shape.the-variants.{Template, Whole, Neither}
 use Rattle.ibm3624.specs.Ibm3624.{tableSized, tableOf, naturalOf, naturalHanded, checkLength, covers, covered, offsetOf, offsetText, digitEnd, offsetPresented}
 use Rattle.offsets.specs.Offsets.{given, pinWithNatural, pinAndNatural, digitsGiven, offsetJudged, digitsJudged, offsetMade, offsetOfDigits, differencesOf}
+use Rattle.offsets.proofs.Laws.{offset-parts, digits-parts, differences-parts}
 use Rattle.verdicts.specs.Verdicts.{offsetVerdict}
+use Rattle.verdicts.proofs.Laws.{verdict-parts}
+use Rattle.pvv.proofs.Laws.{input-parts, pvv-parts}
 use Rattle.pvv.specs.Pvv.{pvvOf, inputRow, keyIndex, presented, pvvGiven, pinRead, pvvInput, pvvVerdict}
 use Rattle.claims_blocks.proofs.Judged.{Only, Fault, done-only, refused-only, test-only, then-only}
 use Rattle.claims_blocks.proofs.Trips.{read-faults}
@@ -124,50 +128,50 @@ module _ (these : Refusal → Type 0) where
   -- the call that makes an offset from a block
   pub made-only : (variable : Bool) → (variable ≡ false → these Check81) → these Room901 → these Field15 → these Format23 → these NotHere69 → these Table25 → these Block20 → these Length24
       → (code check : ℕ) (block account table enciphered : List ℕ) (room : ℕ) → Only these (offsetMade variable code check block account table enciphered room)
-  unfolding offsetJudged
   made-only variable v r c u k t b l code check block account table enciphered room =
       then-only these (offsetJudged variable code check block account table enciphered room) _
+      (subst (λ (o : Outcome (List ℕ)). Only these o) (sym (offset-parts variable check room code block account table enciphered))
       (then-only these (unless Room901 (leb 12 room) room) _ (room-only r 12 room)
       (λ _. then-only these (given code check block account table enciphered) _ (given-only c code check block account table enciphered)
       (λ g. then-only these (pinAndNatural code table g) _ (pair-only u k t b l code table g)
       (λ p. then-only these (covers variable check (length (p .0))) _ (covers-only variable v check (length (p .0)))
-      (λ m. done-only these (offsetOf m (p .0) (p .1)))))))
+      (λ m. done-only these (offsetOf m (p .0) (p .1))))))))
       (λ ds. done-only these (offsetText ds))
 
   -- the one that makes it from digits
   pub of-digits-only : (variable : Bool) → (variable ≡ false → these Check81) → these Room901 → these Field15 → these Block20 → these Length24
       → (check : ℕ) (pin natural : List ℕ) (room : ℕ) → Only these (offsetOfDigits variable check pin natural room)
-  unfolding digitsJudged
   of-digits-only variable v r c b l check pin natural room =
       then-only these (digitsJudged variable check pin natural room) _
+      (subst (λ (o : Outcome (List ℕ)). Only these o) (sym (digits-parts variable check room pin natural))
       (then-only these (unless Room901 (leb 12 room) room) _ (room-only r 12 room)
       (λ _. then-only these (digitsGiven check pin natural) _ (digits-given-only c b l check pin natural)
       (λ p. then-only these (covers variable check (length (p .0))) _ (covers-only variable v check (length (p .0)))
-      (λ m. done-only these (offsetOf m (p .0) (p .1))))))
+      (λ m. done-only these (offsetOf m (p .0) (p .1)))))))
       (λ ds. done-only these (offsetText ds))
 
   -- the call that gives the differences
   pub differences-only : these Check81 → these Room901 → these Field15 → these Block20 → these Length24
       → (variable : Bool) (check : ℕ) (pin natural : List ℕ) (room : ℕ) → Only these (differencesOf variable check pin natural room)
-  unfolding differencesOf
   differences-only v r c b l variable check pin natural room =
-      then-only these (unless Room901 (leb 12 room) room) _ (room-only r 12 room)
+      subst (λ (o : Outcome (List ℤ)). Only these o) (sym (differences-parts variable check room pin natural))
+      (then-only these (unless Room901 (leb 12 room) room) _ (room-only r 12 room)
       (λ _. then-only these (digitsGiven check pin natural) _ (digits-given-only c b l check pin natural)
       (λ p. then-only these (covers variable check (length (p .0))) _ (covers-only variable (λ _. v) check (length (p .0)))
-      (λ m. done-only these (covered m (p .0) (p .1)))))
+      (λ m. done-only these (covered m (p .0) (p .1))))))
 
   -- the verdict on an offset
   pub verdict-only : these Unverified01 → these Check81 → these Field15 → these Format23 → these NotHere69 → these Table25 → these Block20 → these Length24
       → (variable : Bool) (code check : ℕ) (block account table enciphered offset : List ℕ) → Only these (offsetVerdict variable code check block account table enciphered offset)
-  unfolding offsetVerdict
   verdict-only n v c u k t b l variable code check block account table enciphered offset =
-      then-only these (given code check block account table enciphered) _ (given-only c code check block account table enciphered)
+      subst (λ (o : Outcome (List ℕ)). Only these o) (sym (verdict-parts variable code check block account table enciphered offset))
+      (then-only these (given code check block account table enciphered) _ (given-only c code check block account table enciphered)
       (λ g. then-only these (offsetPresented offset) _
       (test-only these Field15 c (eqb (length offset) 12 && (leb 4 (digitEnd offset) && every (within 0x46 0x46) (drop (digitEnd offset) offset))) (map valueOf (take (digitEnd offset) offset)))
       (λ os. then-only these (pinAndNatural code table g) _ (pair-only u k t b l code table g)
       (λ p. then-only these (covers variable check (length (p .0))) _ (covers-only variable (λ _. v) check (length (p .0)))
       (λ m. then-only these (unless Check81 (eqb (length os) m) m) _ (test-only these Check81 v (eqb (length os) m) m)
-      (λ _. test-only these Unverified01 n (same os (offsetOf m (p .0) (p .1))) [])))))
+      (λ _. test-only these Unverified01 n (same os (offsetOf m (p .0) (p .1))) []))))))
 
   -- 15 for the fields of the PVV calls
   pub pvv-given-only : these Field15 → (code index : ℕ) (block account : List ℕ) → Only these (pvvGiven code index block account)
@@ -186,20 +190,20 @@ module _ (these : Refusal → Type 0) where
   -- the call that makes the PVV's input
   pub input-only : these Room901 → these Field15 → these Format23 → these NotHere69 → these Block20 → these Length24
       → (code index : ℕ) (block account : List ℕ) (room : ℕ) → Only these (pvvInput code index block account room)
-  unfolding pvvInput
   input-only r c u k b l code index block account room =
-      then-only these (unless Room901 (leb 8 room) room) _ (room-only r 8 room)
+      subst (λ (o : Outcome (List ℕ)). Only these o) (sym (input-parts code index block account room))
+      (then-only these (unless Room901 (leb 8 room) room) _ (room-only r 8 room)
       (λ _. then-only these (pvvGiven code index block account) _ (pvv-given-only c code index block account)
       (λ g. then-only these (pinRead code g) _ (pin-read-only u k b l code g)
-      (λ ds. done-only these (packs (inputRow (g .1) (g .2) ds)))))
+      (λ ds. done-only these (packs (inputRow (g .1) (g .2) ds))))))
 
   -- the verdict on a PVV
   pub pvv-verdict-only : these Unverified01 → these Field15 → these Format23 → these NotHere69 → these Block20 → these Length24
       → (code index : ℕ) (block account enciphered pvv : List ℕ) → Only these (pvvVerdict code index block account enciphered pvv)
-  unfolding pvvVerdict
   pvv-verdict-only n c u k b l code index block account enciphered pvv =
-      then-only these (pvvGiven code index block account) _ (pvv-given-only c code index block account)
+      subst (λ (o : Outcome (List ℕ)). Only these o) (sym (pvv-parts code index block account enciphered pvv))
+      (then-only these (pvvGiven code index block account) _ (pvv-given-only c code index block account)
       (λ g. then-only these (sized 8 enciphered) _ (sized-only c enciphered)
       (λ es. then-only these (presented pvv) _ (test-only these Field15 c (eqb (length pvv) 4 && allOf Digit pvv) (map valueOf pvv))
       (λ ps. then-only these (pinRead code g) _ (pin-read-only u k b l code g)
-      (λ _. test-only these Unverified01 n (same (pvvOf es) ps) []))))
+      (λ _. test-only these Unverified01 n (same (pvvOf es) ps) [])))))

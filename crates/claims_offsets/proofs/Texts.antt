@@ -2,7 +2,7 @@
 -- Assumes nothing.
 use Prim.Native.Nat.{ℕ, zero, suc, _+_, _-_, _≤_, _<_}
 use native.Mathlib.Omega.{arith}
-use mathlib.Core.Path.{_≡_, refl, ap, ap₂, _∙_}
+use mathlib.Core.Path.{_≡_, refl, sym, ap, ap₂, _∙_}
 use mathlib.Core.List.{List, [], _∷_, map}
 use mathlib.Core.Bool.{Bool, true, false}
 use lib.ListN.{length, getD, replicate, length-map}
@@ -20,7 +20,7 @@ use Rattle.numbers.proofs.Laws.{then-done, value-of}
 use Rattle.ibm3624.specs.Ibm3624.{covers, covered, offsetOf, offsetText, digitEnd, offsetPresented}
 use Rattle.ibm3624.proofs.Laws.{reduced-below, offset-many, text-length, text-head}
 use Rattle.offsets.specs.Offsets.{given, pinAndNatural, offsetFor, offsetJudged}
-use Rattle.offsets.proofs.Laws.{pair-alike, given-laid, covers-within}
+use Rattle.offsets.proofs.Laws.{offset-parts, pair-alike, given-laid, covers-within}
 use Rattle.verdicts.specs.Verdicts.{offsetVerdict}
 use Rattle.claims_blocks.proofs.Lists.{run-is, every-map}
 use Rattle.claims_blocks.specs.Claims.{IsBytes}
@@ -89,10 +89,9 @@ module _ (variable : Bool) (code check m : ℕ) (block account table enciphered 
       verdict-compares variable code check m block account table enciphered (offsetText digits) digits g p x shown y z many ∙ rw (same-refl digits)
 
 pub offset-verifies : OffsetVerifies
-unfolding offsetJudged
 offset-verifies variable code check block account table enciphered text room b c e =
     let o = then-done (offsetJudged variable code check block account table enciphered room) _ text e in
-    let r = then-done (unless Room901 (leb 12 room) room) _ (o .0) (o .1) in
+    let r = then-done (unless Room901 (leb 12 room) room) _ (o .0) (sym (offset-parts variable check room code block account table enciphered) ∙ o .1) in
     let g = then-done (given code check block account table enciphered) _ (o .0) (r .2) in
     let p = then-done (pinAndNatural code table (g .0)) _ (o .0) (g .2) in
     let t = for-done variable check (p .0) (o .0) (p .2) in

@@ -14,7 +14,8 @@ use Rattle.numbers.proofs.Laws.{passed}
 use Rattle.ibm3624.specs.Ibm3624.{covers, offsetOf, offsetPresented}
 use Rattle.offsets.specs.Offsets.{given, pinAndNatural}
 use Rattle.verdicts.specs.Verdicts.{offsetVerdict}
-use Rattle.pvv.specs.Pvv.{pvvOf, pvvGiven, pvvVerdict}
+use Rattle.verdicts.proofs.Laws.{verdict-parts}
+use Rattle.pvv.specs.Pvv.{pvvOf, pvvVerdict}
 use Rattle.claims_offsets.specs.Claims.{Exactly, VerdictExactly, PvvVerdictExactly}
 
 -- a comparison of two rows is 00 exactly where they are the same
@@ -30,8 +31,8 @@ pub verdict-compares :
     → given code check block account table enciphered ≡ done g → offsetPresented offset ≡ done os → pinAndNatural code table g ≡ done p
     → covers variable check (length (p .0)) ≡ done m → length os ≡ m
     → offsetVerdict variable code check block account table enciphered offset ≡ unless Unverified01 (same os (offsetOf m (p .0) (p .1))) []
-unfolding offsetVerdict
-verdict-compares variable code check m block account table enciphered offset os g p a b c d l = rw (a, b, c, d, eq-eqb (length os) m l)
+verdict-compares variable code check m block account table enciphered offset os g p a b c d l =
+    rw (verdict-parts variable code check block account table enciphered offset, a, b, c, d, eq-eqb (length os) m l)
 
 pub verdict-exactly : VerdictExactly
 verdict-exactly variable code check m block account table enciphered offset os g p a b c d l =
@@ -39,6 +40,6 @@ verdict-exactly variable code check m block account table enciphered offset os g
     (sym (verdict-compares variable code check m block account table enciphered offset os g p a b c d l)) (compared os (offsetOf m (p .0) (p .1)))
 
 pub pvv-verdict-exactly : PvvVerdictExactly
-unfolding pvvVerdict pvvGiven
+unfolding pvvVerdict
 pvv-verdict-exactly code index k block account enciphered pvv ns digits es ps ds f a b c d e g h =
     subst (λ (o : Outcome (List ℕ)). Exactly o (pvvOf es ≡ ps)) (sym (rw (a, b, c, d, e, g, h))) (compared (pvvOf es) ps)

@@ -6,6 +6,7 @@ use mathlib.Core.Path.{_≡_, refl, sym, ap, ap₂, _∙_, subst}
 use mathlib.Core.List.{List, map}
 use mathlib.Core.Bool.{Bool, true, false, _&&_}
 use lib.ListN.{length}
+use lib.IntN.{ℤ}
 use lib.Dec.{leb, eqb, lit≤}
 use borrow.Author.Tests.{leb-true, eqb-true}
 use Rattle.nibbles.specs.Nibbles.{row, word, within, every, nibs}
@@ -21,7 +22,7 @@ use Rattle.alphabet.specs.Alphabet.{allOf, valueOf}
 use Rattle.alphabet.specs.declared.Class.the-variants.{Digit}
 use Rattle.formats.specs.Formats.{codeOf, formatOf}
 use Rattle.formats.specs.declared.Format.{Format}
-use Rattle.pins.proofs.Laws.{Pinned, handed-done, account-done, digits-below}
+use Rattle.pins.proofs.Laws.{Pinned, handed-done, account-done, digits-below, through, then-alike}
 use Rattle.blocks.specs.Blocks.{readRow}
 use Rattle.blocks.proofs.Laws.{Sixteen, bytes-sixteen, sixteen-word, read-pinned}
 use Rattle.pins.specs.Answers.{readingOf}
@@ -135,6 +136,53 @@ pub with-natural-compared :
 with-natural-compared f table rows t =
     comparison-fit (pinWithNatural f (row 16 table) (rowsIn rows))
     (natural-alike f (row 16 table) (rowsIn rows) (row-length 16 (rows .block)) (row-length 12 (rows .account)) (row-length 16 (rows .enciphered)) (every-below 9 (row 16 table) t))
+
+-- ---- the calls' chains in parts
+
+module _ (variable : Bool) (check room : ℕ) where
+  -- of a block: what is given at 15, the PIN with its natural PIN, the offset
+  pub offset-parts : (code : ℕ) (block account table enciphered : List ℕ)
+      → offsetJudged variable code check block account table enciphered room
+      ≡ andThen (unless Room901 (leb 12 room) room) (λ _. andThen (given code check block account table enciphered) (λ g. andThen (pinAndNatural code table g) (offsetFor variable check)))
+  unfolding offsetJudged given pinAndNatural pinWithNatural
+  offset-parts code block account table enciphered =
+      sym (then-alike (unless Room901 (leb 12 room) room) _ _
+      (λ _. through (checkLength check) _ behind _
+      (λ _. through (sized 8 block) _ behind _
+      (λ ns. through (accountOf account) _ behind _
+      (λ digits. through (tableSized table) _ behind _
+      (λ _. through (sized 8 enciphered) _ behind _
+      (λ es. through (formatOf (codeOf code)) _ last _
+      (λ f. through (tableOf table) _ last _
+      (λ ts. through (readRow f (accountField digits) ns) _ last _ (λ pin. refl))))))))))
+    where
+      last : List ℕ × List ℕ → Outcome (List ℕ)
+      last = offsetFor variable check
+
+      behind : List ℕ × List ℕ × List ℕ → Outcome (List ℕ)
+      behind g = andThen (pinAndNatural code table g) last
+
+  -- of digits: what is given, the offset or the differences
+  pub digits-parts : (pin natural : List ℕ)
+      → digitsJudged variable check pin natural room ≡ andThen (unless Room901 (leb 12 room) room) (λ _. andThen (digitsGiven check pin natural) (offsetFor variable check))
+  unfolding digitsJudged digitsGiven
+  digits-parts pin natural =
+      sym (then-alike (unless Room901 (leb 12 room) room) _ _
+      (λ _. through (checkLength check) _ (offsetFor variable check) _
+      (λ _. through (pinHanded pin) _ (offsetFor variable check) _
+      (λ ps. through (naturalHanded (length ps) natural) _ (offsetFor variable check) _ (λ ns. refl)))))
+
+  abbrev pub differencesFor : List ℕ × List ℕ → Outcome (List ℤ)
+  differencesFor p = andThen (covers variable check (length (p .0))) (λ m. done (covered m (p .0) (p .1)))
+
+  pub differences-parts : (pin natural : List ℕ)
+      → differencesOf variable check pin natural room ≡ andThen (unless Room901 (leb 12 room) room) (λ _. andThen (digitsGiven check pin natural) differencesFor)
+  unfolding differencesOf digitsGiven
+  differences-parts pin natural =
+      sym (then-alike (unless Room901 (leb 12 room) room) _ _
+      (λ _. through (checkLength check) _ differencesFor _
+      (λ _. through (pinHanded pin) _ differencesFor _
+      (λ ps. through (naturalHanded (length ps) natural) _ differencesFor _ (λ ns. refl)))))
 
 -- ---- how many digits are covered
 
@@ -273,9 +321,8 @@ offset-texty-for variable check p alike room r ds e =
     (omega (arith, alike .pin .short), r, subst (Below 16) whole (below-weaken 10 16 (offsetOf (t .0) (p .0) (p .1)) (lit≤ tt) (reduced-below (covered (t .0) (p .0) (p .1)))))
 
 pub digits-texty : (variable : Bool) (check : ℕ) (pin natural : List ℕ) (room : ℕ) → Texty (digitsJudged variable check pin natural room) room
-unfolding digitsJudged
 digits-texty variable check pin natural room ds e =
-    let r = then-done (unless Room901 (leb 12 room) room) _ ds e in
+    let r = then-done (unless Room901 (leb 12 room) room) _ ds (sym (digits-parts variable check room pin natural) ∙ e) in
     let p = then-done (digitsGiven check pin natural) _ ds (r .2) in
     offset-texty-for variable check (p .0) (digits-alike check pin natural (p .0) (p .1)) room
     (leb-true 12 room (passed Room901 (leb 12 room) room (r .0) (r .1) .0)) ds (p .2)
@@ -283,9 +330,8 @@ digits-texty variable check pin natural room ds e =
 pub offset-texty :
     (variable : Bool) (code check : ℕ) (block account table enciphered : List ℕ) (room : ℕ) → Below 256 block → Below 256 enciphered
     → Texty (offsetJudged variable code check block account table enciphered room) room
-unfolding offsetJudged
 offset-texty variable code check block account table enciphered room b c ds e =
-    let r = then-done (unless Room901 (leb 12 room) room) _ ds e in
+    let r = then-done (unless Room901 (leb 12 room) room) _ ds (sym (offset-parts variable check room code block account table enciphered) ∙ e) in
     let g = then-done (given code check block account table enciphered) _ ds (r .2) in
     let p = then-done (pinAndNatural code table (g .0)) _ ds (g .2) in
     let laid = given-laid code check block account table enciphered b c (g .0) (g .1) in
@@ -300,21 +346,17 @@ ap₃ d e f = λ i. comparison.Of (record { length = d i; pin = e i; natural = f
 
 module _ (variable : Bool) (check : ℕ) (pin natural : List ℕ) (room : ℕ) where
   pub differences-room : leb 12 room ≡ false → differencesOf variable check pin natural room ≡ refused Room901
-  unfolding differencesOf
-  differences-room e = rw e
+  differences-room e = rw (differences-parts variable check room pin natural, e)
 
   pub differences-bad : leb 12 room ≡ true → (q : Refusal) → digitsGiven check pin natural ≡ refused q → differencesOf variable check pin natural room ≡ refused q
-  unfolding differencesOf
-  differences-bad e q d = rw (e, d)
+  differences-bad e q d = rw (differences-parts variable check room pin natural, e, d)
 
   pub differences-long :
       leb 12 room ≡ true → (p : List ℕ × List ℕ) → digitsGiven check pin natural ≡ done p → covers variable check (length (p .0)) ≡ refused Check81
       → differencesOf variable check pin natural room ≡ refused Check81
-  unfolding differencesOf
-  differences-long e p d k = rw (e, d, k)
+  differences-long e p d k = rw (differences-parts variable check room pin natural, e, d, k)
 
   pub differences-made :
       leb 12 room ≡ true → (p : List ℕ × List ℕ) → digitsGiven check pin natural ≡ done p → (m : ℕ) → covers variable check (length (p .0)) ≡ done m
       → differencesOf variable check pin natural room ≡ done (covered m (p .0) (p .1))
-  unfolding differencesOf
-  differences-made e p d m k = rw (e, d, k)
+  differences-made e p d m k = rw (differences-parts variable check room pin natural, e, d, k)

@@ -13,53 +13,42 @@ use Rattle.pins.specs.Pins.{pinHanded, accountOf, accountField, sized}
 use Rattle.blocks.specs.Blocks.{readRow}
 use Rattle.ibm3624.specs.Ibm3624.{tableSized, tableOf, naturalOf, naturalHanded, checkLength, covers, covered, offsetOf, offsetText}
 
--- 15: check length, block, account, table and enciphered block; the block's and the enciphered nibbles and the account's digits
-unfoldable pub given : ℕ → ℕ → List ℕ → List ℕ → List ℕ → List ℕ → Outcome (List ℕ × List ℕ × List ℕ)
-given code check block account table enciphered =
-    andThen (checkLength check)
+-- ---- the calls, each one chain in the paper's order
+
+-- the offset's digits, from a block: 901; 15 for check length, block, account, table and enciphered block; 23 and 69; 25; the block; 81
+unfoldable pub offsetJudged : Bool → ℕ → ℕ → List ℕ → List ℕ → List ℕ → List ℕ → ℕ → Outcome (List ℕ)
+offsetJudged variable code check block account table enciphered room =
+    andThen (unless Room901 (leb 12 room) room)
+    (λ _. andThen (checkLength check)
     (λ _. andThen (sized (blockWidth code) block)
     (λ ns. andThen (accountOf account)
     (λ digits. andThen (tableSized table)
     (λ _. andThen (sized 8 enciphered)
-    (λ es. done (ns, digits, es))))))
-
--- the block: the PIN and its natural PIN
-unfoldable pub pinWithNatural : Format → List ℕ → List ℕ × List ℕ × List ℕ → Outcome (List ℕ × List ℕ)
-pinWithNatural f ts g =
-    andThen (readRow f (accountField (g .1)) (g .0))
-    (λ ds. done (ds, naturalOf (length ds) ts (g .2)))
-
--- 23, 69, 25, then the block
-unfoldable pub pinAndNatural : ℕ → List ℕ → List ℕ × List ℕ × List ℕ → Outcome (List ℕ × List ℕ)
-pinAndNatural code table g =
-    andThen (formatOf (codeOf code))
+    (λ es. andThen (formatOf (codeOf code))
     (λ f. andThen (tableOf table)
-    (λ ts. pinWithNatural f ts g))
+    (λ ts. andThen (readRow f (accountField digits) ns)
+    (λ pin. andThen (covers variable check (length pin))
+    (λ m. done (offsetOf m pin (naturalOf (length pin) ts es))))))))))))
 
--- 15 for the check length, then the PIN and the natural PIN handed in
-unfoldable pub digitsGiven : ℕ → List ℕ → List ℕ → Outcome (List ℕ × List ℕ)
-digitsGiven check pin natural =
-    andThen (checkLength check)
-    (λ _. andThen (pinHanded pin)
-    (λ ds. andThen (naturalHanded (length ds) natural)
-    (λ ns. done (ds, ns))))
-
--- 81, and the offset over the covered digits
-abbrev pub offsetFor : Bool → ℕ → List ℕ × List ℕ → Outcome (List ℕ)
-offsetFor variable check p = andThen (covers variable check (length (p .0))) (λ m. done (offsetOf m (p .0) (p .1)))
-
--- the offset's digits, from a block
-unfoldable pub offsetJudged : Bool → ℕ → ℕ → List ℕ → List ℕ → List ℕ → List ℕ → ℕ → Outcome (List ℕ)
-offsetJudged variable code check block account table enciphered room =
-    andThen (unless Room901 (leb 12 room) room)
-    (λ _. andThen (given code check block account table enciphered)
-    (λ g. andThen (pinAndNatural code table g) (offsetFor variable check)))
-
--- the offset's digits, from digits
+-- the offset's digits, from digits: 901; 15 for the check length; the PIN; the natural PIN; 81
 unfoldable pub digitsJudged : Bool → ℕ → List ℕ → List ℕ → ℕ → Outcome (List ℕ)
 digitsJudged variable check pin natural room =
     andThen (unless Room901 (leb 12 room) room)
-    (λ _. andThen (digitsGiven check pin natural) (offsetFor variable check))
+    (λ _. andThen (checkLength check)
+    (λ _. andThen (pinHanded pin)
+    (λ ps. andThen (naturalHanded (length ps) natural)
+    (λ ns. andThen (covers variable check (length ps))
+    (λ m. done (offsetOf m ps ns))))))
+
+-- the teacher's view: the covered differences, unreduced, judged as the offset is
+unfoldable pub differencesOf : Bool → ℕ → List ℕ → List ℕ → ℕ → Outcome (List ℤ)
+differencesOf variable check pin natural room =
+    andThen (unless Room901 (leb 12 room) room)
+    (λ _. andThen (checkLength check)
+    (λ _. andThen (pinHanded pin)
+    (λ ps. andThen (naturalHanded (length ps) natural)
+    (λ ns. andThen (covers variable check (length ps))
+    (λ m. done (covered m ps ns))))))
 
 -- the text of an offset that was made
 abbrev pub spelt : Outcome (List ℕ) → Outcome (List ℕ)
@@ -72,10 +61,39 @@ offsetMade variable code check block account table enciphered room = spelt (offs
 abbrev pub offsetOfDigits : Bool → ℕ → List ℕ → List ℕ → ℕ → Outcome (List ℕ)
 offsetOfDigits variable check pin natural room = spelt (digitsJudged variable check pin natural room)
 
--- the teacher's view: the covered differences, unreduced
-unfoldable pub differencesOf : Bool → ℕ → List ℕ → List ℕ → ℕ → Outcome (List ℤ)
-differencesOf variable check pin natural room =
-    andThen (unless Room901 (leb 12 room) room)
-    (λ _. andThen (digitsGiven check pin natural)
-    (λ p. andThen (covers variable check (length (p .0)))
-    (λ m. done (covered m (p .0) (p .1)))))
+-- ---- the parts of those chains that other calls and commands share
+
+-- 15: check length, block, account, table and enciphered block; the rows of block, account and enciphered block
+unfoldable pub given : ℕ → ℕ → List ℕ → List ℕ → List ℕ → List ℕ → Outcome (List ℕ × List ℕ × List ℕ)
+given code check block account table enciphered =
+    andThen (checkLength check)
+    (λ _. andThen (sized (blockWidth code) block)
+    (λ ns. andThen (accountOf account)
+    (λ digits. andThen (tableSized table)
+    (λ _. andThen (sized 8 enciphered)
+    (λ es. done (ns, digits, es))))))
+
+-- the block: the PIN and its natural PIN
+unfoldable pub pinWithNatural : Format → List ℕ → List ℕ × List ℕ × List ℕ → Outcome (List ℕ × List ℕ)
+pinWithNatural f ts (ns, digits, es) =
+    andThen (readRow f (accountField digits) ns)
+    (λ pin. done (pin, naturalOf (length pin) ts es))
+
+-- 23 and 69; 25; the block
+unfoldable pub pinAndNatural : ℕ → List ℕ → List ℕ × List ℕ × List ℕ → Outcome (List ℕ × List ℕ)
+pinAndNatural code table rows =
+    andThen (formatOf (codeOf code))
+    (λ f. andThen (tableOf table)
+    (λ ts. pinWithNatural f ts rows))
+
+-- 15 for the check length; the PIN; the natural PIN
+unfoldable pub digitsGiven : ℕ → List ℕ → List ℕ → Outcome (List ℕ × List ℕ)
+digitsGiven check pin natural =
+    andThen (checkLength check)
+    (λ _. andThen (pinHanded pin)
+    (λ ps. andThen (naturalHanded (length ps) natural)
+    (λ ns. done (ps, ns))))
+
+-- 81, and the offset over the covered digits
+abbrev pub offsetFor : Bool → ℕ → List ℕ × List ℕ → Outcome (List ℕ)
+offsetFor variable check (pin, natural) = andThen (covers variable check (length pin)) (λ m. done (offsetOf m pin natural))

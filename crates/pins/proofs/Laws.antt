@@ -16,7 +16,7 @@ use Rattle.nibbles.proofs.Runs.{every-below, inside-low, inside-high}
 use Rattle.alphabet.specs.Alphabet.{admits, allOf, valueOf}
 use Rattle.alphabet.proofs.Laws.{value-below}
 use Rattle.alphabet.specs.declared.Class.the-variants.{Digit}
-use Rattle.numbers.specs.Numbers.{Outcome, done, refused}
+use Rattle.numbers.specs.Numbers.{Outcome, done, refused, andThen}
 use Rattle.numbers.proofs.Laws.{passed, failed, then-done}
 use Rattle.numbers.specs.declared.Refusal.{Refusal}
 use Rattle.numbers.specs.declared.Refusal.the-variants.{Field15, Block20, Length24}
@@ -158,3 +158,15 @@ pub digits-below : (cs : List ℕ) → allOf Digit cs ≡ true → Below 10 (map
 unfolding allOf
 digits-below [] e = tt
 digits-below (c ∷ cs) e = (digit-value c (and-left (admits Digit c) (allOf Digit cs) e), digits-below cs (and-right (admits Digit c) (allOf Digit cs) e))
+
+-- ---- a chain in parts
+
+-- a chain that goes on behind its end is one chain
+pub through : {A B C : Type 0} (o : Outcome A) (f : A → Outcome B) (k : B → Outcome C) (h : A → Outcome C) → ((a : A) → andThen (f a) k ≡ h a) → andThen (andThen o f) k ≡ andThen o h
+through (done a) f k h e = e a
+through (refused q) f k h e = refl
+
+-- chains that go on alike are alike
+pub then-alike : {A B : Type 0} (o : Outcome A) (f g : A → Outcome B) → ((a : A) → f a ≡ g a) → andThen o f ≡ andThen o g
+then-alike (done a) f g e = e a
+then-alike (refused q) f g e = refl

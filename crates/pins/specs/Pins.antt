@@ -1,6 +1,6 @@
 -- PINs and accounts, each judged in one place.
 use Prim.Native.Nat.{ℕ, _-_}
-use mathlib.Core.List.{List, _∷_, _++_, map}
+use mathlib.Core.List.{List, [], _∷_, _++_, map}
 use mathlib.Core.Bool.{Bool, _&&_}
 use lib.ListN.{length, drop, replicate}
 use lib.Dec.{eqb}
@@ -8,7 +8,7 @@ use Rattle.nibbles.specs.Nibbles.{nibs, within, every}
 use Rattle.alphabet.specs.Alphabet.{allOf, valueOf}
 use Rattle.alphabet.specs.declared.Class.the-variants.{Digit}
 use Rattle.numbers.specs.Numbers.{Outcome, andThen, unless}
-use Rattle.numbers.specs.declared.Refusal.the-variants.{Field15, Block20, Length24}
+use Rattle.numbers.specs.declared.Refusal.the-variants.{Unverified01, Field15, Block20, Length24}
 
 -- a digit is 0 to 9
 abbrev pub digit : ℕ → Bool
@@ -45,3 +45,7 @@ accountField digits = 0 ∷ 0 ∷ 0 ∷ 0 ∷ digits
 -- a run of bytes that has to have a width, as nibbles: "a block, enciphered block or fill not 8 bytes" is 15
 abbrev pub sized : ℕ → List ℕ → Outcome (List ℕ)
 sized width bytes = unless Field15 (eqb (length bytes) width) (nibs bytes)
+
+-- a verdict: "00 exactly" where the digits are those that were made, "otherwise 01"; neither writes anything
+abbrev pub verdict : Bool → Outcome (List ℕ)
+verdict verified = unless Unverified01 verified []

@@ -11,7 +11,7 @@ use lib.ListN.{length, getD, take, drop, length-map, length-append, length-drop}
 use lib.Seq.{slice, drop-cons, take-all, take-at, length-take-le}
 use lib.Dec.{leb, eqb, lit≤}
 use borrow.Author.Tests.{leb-true, leb-false, le-leb, lt-leb, eqb-true, not-true, not-false}
-use Rattle.nibbles.specs.Nibbles.{row, word, nibs, within, same}
+use Rattle.nibbles.specs.Nibbles.{row, word, nibs, packs, within, same}
 use Rattle.nibbles.proofs.Lists.{Below, below-drop, below-weaken, map-below, and-left, same-refl, same-false}
 use Rattle.nibbles.proofs.Rows.{row-length, row-below, row-word, row-take, row-part, word-row, word-lt, word-under, word-append}
 use Rattle.nibbles.proofs.Bytes.{nibs-length}
@@ -19,19 +19,19 @@ use Rattle.nibbles.proofs.Runs.{inside, under, over}
 use Rattle.alphabet.specs.Alphabet.{allOf, valueOf, characters}
 use Rattle.alphabet.specs.declared.Class.the-variants.{Digit}
 use Rattle.alphabet.proofs.Laws.{value-below}
-use Rattle.numbers.specs.Numbers.{Outcome, done, refused, unless}
+use Rattle.numbers.specs.Numbers.{Outcome, done, refused, unless, andThen}
 use Rattle.numbers.specs.declared.Refusal.{Refusal}
 use Rattle.numbers.specs.declared.Refusal.the-variants.{Unverified01, Field15, Room901}
 use Rattle.numbers.specs.Promise.{Does, quietly}
 use Rattle.numbers.specs.declared.Reply.{Reply}
 use Rattle.numbers.proofs.Laws.{then-done, passed, failed, value-of, does-as}
 use Rattle.formats.specs.Formats.{codeOf, formatOf}
-use Rattle.pins.specs.Pins.{lastOf, accountOf, accountField, sized}
+use Rattle.pins.specs.Pins.{lastOf, accountOf, accountField, sized, verdict}
 use Rattle.pins.specs.Answers.{pinOf, rowOf}
 use Rattle.pins.specs.declared.Pin.{Pin}
 use Rattle.pins.specs.declared.Row.{Row}
 use Rattle.pins.specs.declared.Row.the-variants.{Held, Refused}
-use Rattle.pins.proofs.Laws.{Pinned, sized-done, account-done, account-under, account-row, block-row, pin-row, row-held, row-refused}
+use Rattle.pins.proofs.Laws.{through, then-alike, Pinned, sized-done, account-done, account-under, account-row, block-row, pin-row, row-held, row-refused}
 use Rattle.blocks.specs.Answers.{digitsOf, blockOf, bytesOf, Roomy}
 use Rattle.blocks.proofs.Laws.{Blocky, answered, roomy, Sixteen, read-pinned}
 use Rattle.pvv.specs.Pvv.{those, pvvOf, inputRow, keyIndex, presented, pvvGiven, pinRead, pvvInput, pvvMade, pvvVerdict}
@@ -281,6 +281,39 @@ module _ (code index : ℕ) (block account : List ℕ) (given : Given) (e : give
   pub fields-bad : (q : Refusal) → given ≡ fields.Bad q → pvvGiven code index block account ≡ refused q
   fields-bad q h = given-bad (pvvGiven code index block account) q (sym h ∙ e)
 
+-- ---- the calls' chains in parts
+
+-- what is given at 15, the PIN, the input
+pub input-parts : (code index : ℕ) (block account : List ℕ) (room : ℕ)
+    → pvvInput code index block account room
+    ≡ andThen (unless Room901 (leb 8 room) room) (λ _. andThen (pvvGiven code index block account) (λ g. andThen (pinRead code g) (λ ds. done (packs (inputRow (g .1) (g .2) ds)))))
+unfolding pvvInput pvvGiven
+input-parts code index block account room =
+    sym (then-alike (unless Room901 (leb 8 room) room) _ _
+    (λ _. through (sized 8 block) _ behind _
+    (λ ns. through (accountOf account) _ behind _
+    (λ digits. through (keyIndex index) _ behind _
+    (λ k. through (formatOf (codeOf code)) _ (λ (ds : List ℕ). done (packs (inputRow digits k ds))) _ (λ f. refl))))))
+  where
+    behind : List ℕ × List ℕ × ℕ → Outcome (List ℕ)
+    behind g = andThen (pinRead code g) (λ ds. done (packs (inputRow (g .1) (g .2) ds)))
+
+-- what is given at 15, the input and the PVV too, the PIN, the verdict
+pub pvv-parts : (code index : ℕ) (block account enciphered pvv : List ℕ)
+    → pvvVerdict code index block account enciphered pvv
+    ≡ andThen (pvvGiven code index block account) (λ g. andThen (sized 8 enciphered) (λ es. andThen (presented pvv) (λ ps. andThen (pinRead code g) (λ _. verdict (same (pvvOf es) ps)))))
+unfolding pvvVerdict pvvGiven
+pvv-parts code index block account enciphered pvv =
+    sym (through (sized 8 block) _ behind _
+    (λ ns. through (accountOf account) _ behind _
+    (λ digits. through (keyIndex index) _ behind _
+    (λ k. then-alike (sized 8 enciphered) _ _
+    (λ es. then-alike (presented pvv) _ _
+    (λ ps. through (formatOf (codeOf code)) _ (λ (ds : List ℕ). verdict (same (pvvOf es) ps)) _ (λ f. refl)))))))
+  where
+    behind : List ℕ × List ℕ × ℕ → Outcome (List ℕ)
+    behind g = andThen (sized 8 enciphered) (λ es. andThen (presented pvv) (λ ps. andThen (pinRead code g) (λ _. verdict (same (pvvOf es) ps))))
+
 -- what is read of such rows is a PIN
 pub read-pin : (code : ℕ) (g : List ℕ × List ℕ × ℕ) (ds : List ℕ) → length (g .0) ≡ 16 → length (g .1) ≡ 12 → pinRead code g ≡ done ds → Pinned ds
 read-pin code g ds h k e =
@@ -288,9 +321,8 @@ read-pin code g ds h k e =
     read-pinned (f .0) (accountField (g .1)) (g .0) ds (omega arith) h (f .2)
 
 pub call-input : (code index : ℕ) (block account : List ℕ) (room : ℕ) → Blocky (pvvInput code index block account room) room
-unfolding pvvInput
 call-input code index block account room bs e =
-    let r = then-done (unless Room901 (leb 8 room) room) _ bs e in
+    let r = then-done (unless Room901 (leb 8 room) room) _ bs (sym (input-parts code index block account room) ∙ e) in
     let g = then-done (pvvGiven code index block account) _ bs (r .2) in
     let d = then-done (pinRead code (g .0)) _ bs (g .2) in
     let f = given-each code index block account (g .0) (g .1) in
@@ -346,9 +378,8 @@ module _ (e shown : ℕ) (small : shown < 16 ^ 4) where
 
 -- a verdict 00 writes nothing
 pub verdict-nothing : (code index : ℕ) (block account enciphered pvv ws : List ℕ) → pvvVerdict code index block account enciphered pvv ≡ done ws → ws ≡ []
-unfolding pvvVerdict
 verdict-nothing code index block account enciphered pvv ws e =
-    let g = then-done (pvvGiven code index block account) _ ws e in
+    let g = then-done (pvvGiven code index block account) _ ws (sym (pvv-parts code index block account enciphered pvv) ∙ e) in
     let m = then-done (sized 8 enciphered) _ ws (g .2) in
     let p = then-done (presented pvv) _ ws (m .2) in
     let d = then-done (pinRead code (g .0)) _ ws (p .2) in

@@ -13,7 +13,10 @@ use Rattle.alphabet.proofs.Laws.{value-below}
 use Rattle.pins.specs.declared.Pin.{Pin}
 use Rattle.pins.specs.declared.Reading.the-variants.{Got}
 use Rattle.pins.specs.Answers.{readingOf}
-use Rattle.pins.proofs.Laws.{reading-got}
+use Rattle.pins.specs.Pins.{accountOf, accountField, sized}
+use Rattle.pins.proofs.Laws.{reading-got, through, then-alike}
+use Rattle.formats.specs.Formats.{codeOf, formatOf}
+use Rattle.blocks.specs.Blocks.{readRow}
 use Rattle.blocks.specs.Answers.{digitsOf}
 use Rattle.nibbles.specs.Nibbles.{row, word, within, every, same}
 use Rattle.nibbles.proofs.Lists.{Below, below-weaken, same-refl, same-false, map-below}
@@ -23,9 +26,9 @@ use Rattle.numbers.specs.declared.Refusal.{Refusal}
 use Rattle.numbers.specs.declared.Refusal.the-variants.{Field15, Check81, Unverified01}
 use Rattle.numbers.proofs.Laws.{passed, failed, then-done, value-of}
 use Rattle.alphabet.specs.Alphabet.{valueOf}
-use Rattle.ibm3624.specs.Ibm3624.{covered, offsetOf, covers, digitEnd, offsetPresented}
+use Rattle.ibm3624.specs.Ibm3624.{tableSized, tableOf, checkLength, covered, offsetOf, covers, digitEnd, offsetPresented}
 use Rattle.ibm3624.proofs.Laws.{offset-many, reduced-below}
-use Rattle.offsets.specs.Offsets.{given, pinAndNatural, offsetFor}
+use Rattle.offsets.specs.Offsets.{given, pinWithNatural, pinAndNatural, offsetFor}
 use Rattle.offsets.specs.Answers.{pairIn}
 use Rattle.offsets.specs.declared.Compared.{Compared}
 use Rattle.offsets.proofs.Laws.{covers-within, covers-not}
@@ -94,6 +97,27 @@ presented-held cs x e =
     let b = presented-below cs (s .0) (s .1) in
     (s .0, s .1, subst (λ (y : Pin). y .digits < 16 ^ y .length) (sym (s .2)) (word-lt (s .0) b), ap digitsOf (s .2) ∙ row-word (s .0) b)
 
+-- ---- the call's chain in parts
+
+-- what is given at 15, the presented offset, the PIN with its natural PIN, the verdict
+pub verdict-parts : (variable : Bool) (code check : ℕ) (block account table enciphered offset : List ℕ)
+    → offsetVerdict variable code check block account table enciphered offset
+    ≡ andThen (given code check block account table enciphered) (λ g. andThen (offsetPresented offset) (λ os. andThen (pinAndNatural code table g) (verdictOn variable check os)))
+unfolding offsetVerdict given pinAndNatural pinWithNatural
+verdict-parts variable code check block account table enciphered offset =
+    sym (through (checkLength check) _ behind _
+    (λ _. through (sized 8 block) _ behind _
+    (λ ns. through (accountOf account) _ behind _
+    (λ digits. through (tableSized table) _ behind _
+    (λ _. through (sized 8 enciphered) _ behind _
+    (λ es. then-alike (offsetPresented offset) _ _
+    (λ os. through (formatOf (codeOf code)) _ (verdictOn variable check os) _
+    (λ f. through (tableOf table) _ (verdictOn variable check os) _
+    (λ ts. through (readRow f (accountField digits) ns) _ (verdictOn variable check os) _ (λ pin. refl))))))))))
+  where
+    behind : List ℕ × List ℕ × List ℕ → Outcome (List ℕ)
+    behind g = andThen (offsetPresented offset) (λ os. andThen (pinAndNatural code table g) (verdictOn variable check os))
+
 -- ---- a verdict 00
 
 -- what it has judged, and that it writes nothing
@@ -101,9 +125,8 @@ module _ (variable : Bool) (code check : ℕ) (block account table enciphered of
   pub verdict-done : (g : List ℕ × List ℕ × List ℕ) × (os : List ℕ) × (p : List ℕ × List ℕ) × (m : ℕ) × (given code check block account table enciphered ≡ done g)
       × (offsetPresented offset ≡ done os) × (pinAndNatural code table g ≡ done p) × (covers variable check (length (p .0)) ≡ done m)
       × (unless Unverified01 (same os (offsetOf m (p .0) (p .1))) [] ≡ done ws)
-  unfolding offsetVerdict
   verdict-done =
-      let g = then-done (given code check block account table enciphered) _ ws e in
+      let g = then-done (given code check block account table enciphered) _ ws (sym (verdict-parts variable code check block account table enciphered offset) ∙ e) in
       let s = then-done (offsetPresented offset) _ ws (g .2) in
       let p = then-done (pinAndNatural code table (g .0)) _ ws (s .2) in
       let m = then-done (covers variable check (length (p .0 .0))) _ ws (p .2) in

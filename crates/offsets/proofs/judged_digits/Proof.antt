@@ -5,7 +5,7 @@ use mathlib.Core.List.{List}
 use mathlib.Core.Path.{ap, sym, _∙_}
 use borrow.Author.Tests.{le-leb, lt-leb}
 use borrow.Author.Needs.{needs}
-use Rattle.offsets.proofs.Laws.{comparison-fit, comparison-bad, digits-alike}
+use Rattle.offsets.proofs.Laws.{digits-parts, comparison-fit, comparison-bad, digits-alike}
 use Rattle.offsets.specs.Offsets.{digitsGiven, offsetFor, digitsJudged}
 use Rattle.offsets.specs.Answers.{refusalIn}
 use Rattle.pins.specs.declared.Reading.the-variants.{Bad}
@@ -32,11 +32,10 @@ refusal-requires : tie.Need-refusal-requires
 refusal-requires c κs = search needs
 
 returns-2 : tie.Need-returns-2
-unfolding digitsJudged
 returns-2 c =
     let a = c .before .before .before .before .before .before .before .args in
     let o = digitsGiven (a .check) (a .pin .now) (a .natural .now) in
-    rw (le-leb 12 (a .room) (c .before .before .before .before .if1 .left), comparison-bad o _ (sym (c .before .enum-told .given .1) ∙ c .before .before .before .handed .ensures)) (ap Bad (c .refusal .ensures ∙ ap refusalIn (c .before .enum-told .given .1)))
+    rw (digits-parts (a .variable) (a .check) (a .room) (a .pin .now) (a .natural .now), le-leb 12 (a .room) (c .before .before .before .before .if1 .left), comparison-bad o _ (sym (c .before .enum-told .given .1) ∙ c .before .before .before .handed .ensures)) (ap Bad (c .refusal .ensures ∙ ap refusalIn (c .before .enum-told .given .1)))
 
 offset-for-requires : tie.Need-offset-for-requires
 offset-for-requires c κs =
@@ -44,11 +43,10 @@ offset-for-requires c κs =
     comparison-fit (digitsGiven (a .check) (a .pin .now) (a .natural .now)) (digits-alike (a .check) (a .pin .now) (a .natural .now)) _ (sym (c .before .comparison .given .1) ∙ c .before .before .before .handed .ensures) .2
 
 returns-3 : tie.Need-returns-3
-unfolding digitsJudged
 returns-3 c =
     let a = c .before .before .before .before .before .before .before .before .args in
     let p = comparison-fit (digitsGiven (a .check) (a .pin .now) (a .natural .now)) (digits-alike (a .check) (a .pin .now) (a .natural .now)) _ (sym (c .before .before .comparison .given .1) ∙ c .before .before .before .before .handed .ensures) in
-    rw (le-leb 12 (a .room) (c .before .before .before .before .before .if1 .left), p .1) (c .offset-for .ensures ∙ ap (λ (q : List ℕ × List ℕ). readingOf (offsetFor (a .variable) (a .check) q)) (p .3))
+    rw (digits-parts (a .variable) (a .check) (a .room) (a .pin .now) (a .natural .now), le-leb 12 (a .room) (c .before .before .before .before .before .if1 .left), p .1) (c .offset-for .ensures ∙ ap (λ (q : List ℕ × List ℕ). readingOf (offsetFor (a .variable) (a .check) q)) (p .3))
 
 pub judged-digits-spec : {M : Type 1} → statement M
 judged-digits-spec =

@@ -5,7 +5,7 @@ use mathlib.Core.List.{List}
 use mathlib.Core.Path.{ap, sym, _∙_}
 use borrow.Author.Tests.{le-leb, lt-leb}
 use borrow.Author.Needs.{needs}
-use Rattle.offsets.proofs.Laws.{given-fit, given-none, given-compared, given-incomparable}
+use Rattle.offsets.proofs.Laws.{offset-parts, given-fit, given-none, given-compared, given-incomparable}
 use Rattle.offsets.specs.Answers.{refusalIn}
 use Rattle.offsets.specs.Offsets.{offsetFor, offsetJudged}
 use Rattle.pins.specs.declared.Reading.the-variants.{Bad}
@@ -30,10 +30,9 @@ enum-told : tie.Need-enum-told
 enum-told c = search needs
 
 returns-2 : tie.Need-returns-2
-unfolding offsetJudged
 returns-2 c =
     let a = c .before .before .before .before .before .before .before .before .args in
-    rw (le-leb 12 (a .room) (c .before .before .before .if1 .left), given-none (a .format) (a .check) (a .block .now) (a .account .now) (a .table .now) (a .enciphered .now) _ (sym (c .enum-told .given .1) ∙ c .before .before .taken .ensures))
+    rw (offset-parts (a .variable) (a .check) (a .room) (a .format) (a .block .now) (a .account .now) (a .table .now) (a .enciphered .now), le-leb 12 (a .room) (c .before .before .before .if1 .left), given-none (a .format) (a .check) (a .block .now) (a .account .now) (a .table .now) (a .enciphered .now) _ (sym (c .enum-told .given .1) ∙ c .before .before .taken .ensures))
 
 paired-requires : tie.Need-paired-requires
 paired-requires c κs =
@@ -51,11 +50,10 @@ refusal-requires : tie.Need-refusal-requires
 refusal-requires c κs = search needs
 
 returns-3 : tie.Need-returns-3
-unfolding offsetJudged
 returns-3 c =
     let a = c .before .before .before .before .before .before .before .before .before .before .before .before .before .args in
     let q = given-incomparable (a .format) (a .check) (a .block .now) (a .account .now) (a .table .now) (a .enciphered .now) (bytes-below (a .block .now) (c .before .before .before .before .before .before .before .before .before .before .before .before .shared-slice-known .given)) (bytes-below (a .enciphered .now) (c .before .before .before .before .before .before .before .before .before .shared-slice-known4 .given)) _ (sym (c .before .before .before .before .before .fields .given .1) ∙ c .before .before .before .before .before .before .before .taken .ensures) _ (sym (c .before .enum-told2 .given .1) ∙ c .before .before .before .paired .ensures) in
-    rw (le-leb 12 (a .room) (c .before .before .before .before .before .before .before .before .if1 .left), q .1, q .2) (ap Bad (c .refusal .ensures ∙ ap refusalIn (c .before .enum-told2 .given .1)))
+    rw (offset-parts (a .variable) (a .check) (a .room) (a .format) (a .block .now) (a .account .now) (a .table .now) (a .enciphered .now), le-leb 12 (a .room) (c .before .before .before .before .before .before .before .before .if1 .left), q .1, q .2) (ap Bad (c .refusal .ensures ∙ ap refusalIn (c .before .enum-told2 .given .1)))
 
 offset-for-requires : tie.Need-offset-for-requires
 offset-for-requires c κs =
@@ -63,11 +61,10 @@ offset-for-requires c κs =
     given-compared (a .format) (a .check) (a .block .now) (a .account .now) (a .table .now) (a .enciphered .now) (bytes-below (a .block .now) (c .before .before .before .before .before .before .before .before .before .before .before .before .shared-slice-known .given)) (bytes-below (a .enciphered .now) (c .before .before .before .before .before .before .before .before .before .shared-slice-known4 .given)) _ (sym (c .before .before .before .before .before .fields .given .1) ∙ c .before .before .before .before .before .before .before .taken .ensures) _ (sym (c .before .comparison .given .1) ∙ c .before .before .before .paired .ensures) .4
 
 returns-4 : tie.Need-returns-4
-unfolding offsetJudged
 returns-4 c =
     let a = c .before .before .before .before .before .before .before .before .before .before .before .before .before .before .args in
     let p = given-compared (a .format) (a .check) (a .block .now) (a .account .now) (a .table .now) (a .enciphered .now) (bytes-below (a .block .now) (c .before .before .before .before .before .before .before .before .before .before .before .before .before .shared-slice-known .given)) (bytes-below (a .enciphered .now) (c .before .before .before .before .before .before .before .before .before .before .shared-slice-known4 .given)) _ (sym (c .before .before .before .before .before .before .fields .given .1) ∙ c .before .before .before .before .before .before .before .before .taken .ensures) _ (sym (c .before .before .comparison .given .1) ∙ c .before .before .before .before .paired .ensures) in
-    rw (le-leb 12 (a .room) (c .before .before .before .before .before .before .before .before .before .if1 .left), p .1, p .3) (c .offset-for .ensures ∙ ap (λ (q : List ℕ × List ℕ). readingOf (offsetFor (a .variable) (a .check) q)) (p .5))
+    rw (offset-parts (a .variable) (a .check) (a .room) (a .format) (a .block .now) (a .account .now) (a .table .now) (a .enciphered .now), le-leb 12 (a .room) (c .before .before .before .before .before .before .before .before .before .if1 .left), p .1, p .3) (c .offset-for .ensures ∙ ap (λ (q : List ℕ × List ℕ). readingOf (offsetFor (a .variable) (a .check) q)) (p .5))
 
 pub judged-offset-spec : {M : Type 1} → statement M
 judged-offset-spec =

@@ -3,7 +3,7 @@
 use mathlib.Core.Path.{ap, sym, _∙_}
 use borrow.Author.Tests.{le-leb, lt-leb}
 use borrow.Author.Needs.{needs}
-use Rattle.pvv.proofs.Laws.{fields-of, fields-bad, read-pin, input-pin, input-sixteen}
+use Rattle.pvv.proofs.Laws.{input-parts, fields-of, fields-bad, read-pin, input-pin, input-sixteen}
 use Rattle.pvv.specs.Answers.{fieldsRefusal, rowsIn}
 use Rattle.pvv.specs.Pvv.{inputRow, pinRead, pvvInput}
 use Rattle.blocks.proofs.Laws.{sixteen-nibs}
@@ -34,10 +34,9 @@ refusal-requires : tie.Need-refusal-requires
 refusal-requires c κs = search needs
 
 returns-2 : tie.Need-returns-2
-unfolding pvvInput
 returns-2 c =
     let a = c .before .before .before .before .before .before .before .args in
-    rw (le-leb 8 (a .room) (c .before .before .before .before .if1 .left), fields-bad (a .format) (a .index) (a .block .now) (a .account .now) _ (c .before .before .before .judged-fields .ensures) _ (c .before .enum-told .given .1)) (ap Refused (c .refusal .ensures ∙ ap fieldsRefusal (c .before .enum-told .given .1)))
+    rw (input-parts (a .format) (a .index) (a .block .now) (a .account .now) (a .room), le-leb 8 (a .room) (c .before .before .before .before .if1 .left), fields-bad (a .format) (a .index) (a .block .now) (a .account .now) _ (c .before .before .before .judged-fields .ensures) _ (c .before .enum-told .given .1)) (ap Refused (c .refusal .ensures ∙ ap fieldsRefusal (c .before .enum-told .given .1)))
 
 read-by-requires : tie.Need-read-by-requires
 read-by-requires c κs =
@@ -55,11 +54,10 @@ refusal-requires-2 : tie.Need-refusal-requires-2
 refusal-requires-2 c κs = search needs
 
 returns-3 : tie.Need-returns-3
-unfolding pvvInput
 returns-3 c =
     let a = c .before .before .before .before .before .before .before .before .before .before .before .args in
     let g = fields-of (a .format) (a .index) (a .block .now) (a .account .now) (c .before .before .before .before .before .before .before .judged-fields .result) (c .before .before .before .before .before .before .before .judged-fields .ensures) (bytes-below (a .block .now) (c .before .before .before .before .before .before .before .before .before .before .shared-slice-known .given)) _ (c .before .before .before .before .before .fields .given .1) in
-    rw (le-leb 8 (a .room) (c .before .before .before .before .before .before .before .before .if1 .left), g .0, reading-bad (pinRead (a .format) (rowsIn (c .before .before .before .before .before .fields .given .0 .0))) _ (sym (c .before .enum-told2 .given .1) ∙ c .before .before .before .read-by .ensures)) (ap Refused (c .refusal2 .ensures ∙ ap refusalIn (c .before .enum-told2 .given .1)))
+    rw (input-parts (a .format) (a .index) (a .block .now) (a .account .now) (a .room), le-leb 8 (a .room) (c .before .before .before .before .before .before .before .before .if1 .left), g .0, reading-bad (pinRead (a .format) (rowsIn (c .before .before .before .before .before .fields .given .0 .0))) _ (sym (c .before .enum-told2 .given .1) ∙ c .before .before .before .read-by .ensures)) (ap Refused (c .refusal2 .ensures ∙ ap refusalIn (c .before .enum-told2 .given .1)))
 
 input-row-requires : tie.Need-input-row-requires
 input-row-requires c κs =
@@ -68,7 +66,6 @@ input-row-requires c κs =
     g .2
 
 returns-4 : tie.Need-returns-4
-unfolding pvvInput
 returns-4 c =
     let a = c .before .before .before .before .before .before .before .before .before .before .before .before .args in
     let g = fields-of (a .format) (a .index) (a .block .now) (a .account .now) (c .before .before .before .before .before .before .before .before .judged-fields .result) (c .before .before .before .before .before .before .before .before .judged-fields .ensures) (bytes-below (a .block .now) (c .before .before .before .before .before .before .before .before .before .before .before .shared-slice-known .given)) _ (c .before .before .before .before .before .before .fields .given .1) in
@@ -77,7 +74,7 @@ returns-4 c =
     let d = reading-got (pinRead (a .format) (rowsIn r)) _ (sym (c .before .before .reading .given .1) ∙ c .before .before .before .before .read-by .ensures) in
     let p = read-pin (a .format) (rowsIn r) (d .0) (row-length 16 (r .block)) (row-length 12 (r .account)) (d .1) in
     let sixteen = input-sixteen ns (d .0) (r .index) (row-length 12 (r .account)) (row-below 12 (r .account)) (g .2) p in
-    rw (le-leb 8 (a .room) (c .before .before .before .before .before .before .before .before .before .if1 .left), g .0, d .1)
+    rw (input-parts (a .format) (a .index) (a .block .now) (a .account .now) (a .room), le-leb 8 (a .room) (c .before .before .before .before .before .before .before .before .before .if1 .left), g .0, d .1)
     (ap Held (c .input-row .ensures ∙ ap word (ap (λ (q : Pin). inputRow ns (r .index) (row 16 (q .digits))) (d .2) ∙ input-pin ns (d .0) (r .index) p
     ∙ sym (sixteen-nibs (inputRow ns (r .index) (d .0)) sixteen))))
 

@@ -1,17 +1,16 @@
 -- `pvv::judged_verdict` meets its contract.
 -- Assumes nothing.
 use Prim.Native.Nat.{ℕ}
-use mathlib.Core.List.{List, []}
+use mathlib.Core.List.{List}
 use mathlib.Core.Path.{ap, ap₂, sym, _∙_}
 use borrow.Author.Needs.{needs}
-use Rattle.pvv.proofs.Laws.{fields-of, fields-bad, behind-held, behind-refused, presented-not, presented-row}
+use Rattle.pvv.proofs.Laws.{pvv-parts, fields-of, fields-bad, behind-held, behind-refused, presented-not, presented-row}
 use Rattle.pvv.specs.Answers.{fieldsRefusal, rowsIn}
-use Rattle.pvv.specs.Pvv.{presented, pinRead, pvvOf, pvvVerdict}
+use Rattle.pvv.specs.Pvv.{presented, pinRead, pvvOf}
 use Rattle.pins.proofs.Laws.{sized-held, sized-not, block-row, reading-got, reading-bad}
 use Rattle.pins.specs.declared.Row.the-variants.{Refused}
+use Rattle.pins.specs.Pins.{verdict}
 use Rattle.pins.specs.Answers.{rowOf, refusalIn}
-use Rattle.numbers.specs.Numbers.{unless}
-use Rattle.numbers.specs.declared.Refusal.the-variants.{Unverified01}
 use Rattle.nibbles.proofs.Bytes.{bytes-below}
 use Rattle.nibbles.specs.Nibbles.{nibs, same}
 use Rattle.pvv.proofs.judged_verdict.Statement.{statement}
@@ -30,10 +29,9 @@ refusal-requires : tie.Need-refusal-requires
 refusal-requires c κs = search needs
 
 returns : tie.Need-returns
-unfolding pvvVerdict
 returns c =
     let a = c .before .before .before .before .before .before .before .before .args in
-    rw (fields-bad (a .format) (a .index) (a .block .now) (a .account .now) _ (c .before .before .before .judged-fields .ensures) _ (c .before .enum-told .given .1)) (ap Refused (c .refusal .ensures ∙ ap fieldsRefusal (c .before .enum-told .given .1)))
+    rw (pvv-parts (a .format) (a .index) (a .block .now) (a .account .now) (a .enciphered .now) (a .pvv .now), fields-bad (a .format) (a .index) (a .block .now) (a .account .now) _ (c .before .before .before .judged-fields .ensures) _ (c .before .enum-told .given .1)) (ap Refused (c .refusal .ensures ∙ ap fieldsRefusal (c .before .enum-told .given .1)))
 
 sized-row-requires : tie.Need-sized-row-requires
 sized-row-requires c κs = search needs
@@ -45,11 +43,10 @@ enum-told-2 : tie.Need-enum-told-2
 enum-told-2 c = search needs
 
 returns-2 : tie.Need-returns-2
-unfolding pvvVerdict
 returns-2 c =
     let a = c .before .before .before .before .before .before .before .before .before .before .before .args in
     let g = fields-of (a .format) (a .index) (a .block .now) (a .account .now) (c .before .before .before .before .before .before .judged-fields .result) (c .before .before .before .before .before .before .judged-fields .ensures) (bytes-below (a .block .now) (c .before .before .before .before .before .before .before .before .before .before .shared-slice-known .given)) _ (c .before .before .before .before .fields .given .1) in
-    rw (g .0, sized-not 8 (a .enciphered .now) _ (c .before .before .sized-row .ensures) _ (c .enum-told2 .given .1))
+    rw (pvv-parts (a .format) (a .index) (a .block .now) (a .account .now) (a .enciphered .now) (a .pvv .now), g .0, sized-not 8 (a .enciphered .now) _ (c .before .before .sized-row .ensures) _ (c .enum-told2 .given .1))
 
 presented-row-requires : tie.Need-presented-row-requires
 presented-row-requires c κs = search needs
@@ -61,12 +58,11 @@ enum-told-3 : tie.Need-enum-told-3
 enum-told-3 c = search needs
 
 returns-3 : tie.Need-returns-3
-unfolding pvvVerdict
 returns-3 c =
     let a = c .before .before .before .before .before .before .before .before .before .before .before .before .before .before .before .args in
     let g = fields-of (a .format) (a .index) (a .block .now) (a .account .now) (c .before .before .before .before .before .before .before .before .before .before .judged-fields .result) (c .before .before .before .before .before .before .before .before .before .before .judged-fields .ensures) (bytes-below (a .block .now) (c .before .before .before .before .before .before .before .before .before .before .before .before .before .before .shared-slice-known .given)) _ (c .before .before .before .before .before .before .before .before .fields .given .1) in
     let m = sized-held 8 (a .enciphered .now) (c .before .before .before .before .before .before .sized-row .result) (c .before .before .before .before .before .before .sized-row .ensures) _ (c .before .before .before .before .input .given .1) in
-    rw (g .0, m .0, presented-not (a .pvv .now) _ (behind-refused (presented (a .pvv .now)) _ (c .before .before .presented-row .ensures) _ (c .enum-told3 .given .1)))
+    rw (pvv-parts (a .format) (a .index) (a .block .now) (a .account .now) (a .enciphered .now) (a .pvv .now), g .0, m .0, presented-not (a .pvv .now) _ (behind-refused (presented (a .pvv .now)) _ (c .before .before .presented-row .ensures) _ (c .enum-told3 .given .1)))
 
 read-by-requires : tie.Need-read-by-requires
 read-by-requires c κs =
@@ -84,13 +80,12 @@ refusal-requires-2 : tie.Need-refusal-requires-2
 refusal-requires-2 c κs = search needs
 
 returns-4 : tie.Need-returns-4
-unfolding pvvVerdict
 returns-4 c =
     let a = c .before .before .before .before .before .before .before .before .before .before .before .before .before .before .before .before .before .before .before .before .args in
     let g = fields-of (a .format) (a .index) (a .block .now) (a .account .now) (c .before .before .before .before .before .before .before .before .before .before .before .before .before .before .before .judged-fields .result) (c .before .before .before .before .before .before .before .before .before .before .before .before .before .before .before .judged-fields .ensures) (bytes-below (a .block .now) (c .before .before .before .before .before .before .before .before .before .before .before .before .before .before .before .before .before .before .before .shared-slice-known .given)) _ (c .before .before .before .before .before .before .before .before .before .before .before .before .before .fields .given .1) in
     let m = sized-held 8 (a .enciphered .now) (c .before .before .before .before .before .before .before .before .before .before .before .sized-row .result) (c .before .before .before .before .before .before .before .before .before .before .before .sized-row .ensures) _ (c .before .before .before .before .before .before .before .before .before .input .given .1) in
     let p = behind-held (presented (a .pvv .now)) (c .before .before .before .before .before .before .before .presented-row .result) (c .before .before .before .before .before .before .before .presented-row .ensures) _ (c .before .before .before .before .before .presented .given .1) in
-    rw (g .0, m .0, p .1, reading-bad (pinRead (a .format) (rowsIn (c .before .before .before .before .before .before .before .before .before .before .before .before .before .fields .given .0 .0))) _ (sym (c .before .enum-told5 .given .1) ∙ c .before .before .before .read-by .ensures)) (ap Refused (c .refusal2 .ensures ∙ ap refusalIn (c .before .enum-told5 .given .1)))
+    rw (pvv-parts (a .format) (a .index) (a .block .now) (a .account .now) (a .enciphered .now) (a .pvv .now), g .0, m .0, p .1, reading-bad (pinRead (a .format) (rowsIn (c .before .before .before .before .before .before .before .before .before .before .before .before .before .fields .given .0 .0))) _ (sym (c .before .enum-told5 .given .1) ∙ c .before .before .before .read-by .ensures)) (ap Refused (c .refusal2 .ensures ∙ ap refusalIn (c .before .enum-told5 .given .1)))
 
 compared-requires : tie.Need-compared-requires
 compared-requires c κs =
@@ -99,7 +94,6 @@ compared-requires c κs =
     presented-row (a .pvv .now) (p .0) _ (p .1) (p .2) .1
 
 returns-5 : tie.Need-returns-5
-unfolding pvvVerdict
 returns-5 c =
     let a = c .before .before .before .before .before .before .before .before .before .before .before .before .before .before .before .before .before .before .before .before .args in
     let g = fields-of (a .format) (a .index) (a .block .now) (a .account .now) (c .before .before .before .before .before .before .before .before .before .before .before .before .before .before .before .judged-fields .result) (c .before .before .before .before .before .before .before .before .before .before .before .before .before .before .before .judged-fields .ensures) (bytes-below (a .block .now) (c .before .before .before .before .before .before .before .before .before .before .before .before .before .before .before .before .before .before .before .shared-slice-known .given)) _ (c .before .before .before .before .before .before .before .before .before .before .before .before .before .fields .given .1) in
@@ -108,7 +102,7 @@ returns-5 c =
     let d = reading-got (pinRead (a .format) (rowsIn (c .before .before .before .before .before .before .before .before .before .before .before .before .before .fields .given .0 .0))) _ (sym (c .before .enum-told4 .given .1) ∙ c .before .before .before .read-by .ensures) in
     let input = block-row (a .enciphered .now) (nibs (a .enciphered .now)) _ (m .0) (bytes-below (a .enciphered .now) (c .before .before .before .before .before .before .before .before .before .before .before .before .before .before .before .before .before .shared-slice-known3 .given)) (m .1) in
     let shown = presented-row (a .pvv .now) (p .0) _ (p .1) (p .2) .0 in
-    rw (g .0, m .0, p .1, d .1) (c .compared .ensures ∙ ap₂ (λ (es ps : List ℕ). rowOf (unless Unverified01 (same (pvvOf es) ps) [])) input shown)
+    rw (pvv-parts (a .format) (a .index) (a .block .now) (a .account .now) (a .enciphered .now) (a .pvv .now), g .0, m .0, p .1, d .1) (c .compared .ensures ∙ ap₂ (λ (es ps : List ℕ). rowOf (verdict (same (pvvOf es) ps))) input shown)
 
 pub judged-verdict-spec : {M : Type 1} → statement M
 judged-verdict-spec =

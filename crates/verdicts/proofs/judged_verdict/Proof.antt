@@ -5,9 +5,9 @@ use mathlib.Core.List.{List}
 use mathlib.Core.Path.{ap, ap₂, sym, _∙_}
 use borrow.Author.Needs.{needs}
 use Rattle.offsets.proofs.Laws.{given-fit, given-none, given-compared, given-incomparable}
-use Rattle.verdicts.proofs.Laws.{presented-refused, presented-held}
+use Rattle.verdicts.proofs.Laws.{verdict-parts, presented-refused, presented-held}
 use Rattle.offsets.specs.Answers.{refusalIn}
-use Rattle.verdicts.specs.Verdicts.{verdictOn, offsetVerdict}
+use Rattle.verdicts.specs.Verdicts.{verdictOn}
 use Rattle.ibm3624.specs.Ibm3624.{offsetPresented}
 use Rattle.pins.proofs.Laws.{reading-bad}
 use Rattle.pins.specs.declared.Row.the-variants.{Refused}
@@ -26,10 +26,9 @@ enum-told : tie.Need-enum-told
 enum-told c = search needs
 
 returns : tie.Need-returns
-unfolding offsetVerdict
 returns c =
     let a = c .before .before .before .before .before .before .before .before .args in
-    rw (given-none (a .format) (a .check) (a .block .now) (a .account .now) (a .table .now) (a .enciphered .now) _ (sym (c .enum-told .given .1) ∙ c .before .before .taken .ensures))
+    rw (verdict-parts (a .variable) (a .format) (a .check) (a .block .now) (a .account .now) (a .table .now) (a .enciphered .now) (a .offset .now), given-none (a .format) (a .check) (a .block .now) (a .account .now) (a .table .now) (a .enciphered .now) _ (sym (c .enum-told .given .1) ∙ c .before .before .taken .ensures))
 
 presented-requires : tie.Need-presented-requires
 presented-requires c κs = search needs
@@ -41,11 +40,10 @@ enum-told-2 : tie.Need-enum-told-2
 enum-told-2 c = search needs
 
 returns-2 : tie.Need-returns-2
-unfolding offsetVerdict
 returns-2 c =
     let a = c .before .before .before .before .before .before .before .before .before .before .before .before .args in
     let g = given-fit (a .format) (a .check) (a .block .now) (a .account .now) (a .table .now) (a .enciphered .now) (bytes-below (a .block .now) (c .before .before .before .before .before .before .before .before .before .before .before .shared-slice-known .given)) (bytes-below (a .enciphered .now) (c .before .before .before .before .before .before .before .before .shared-slice-known4 .given)) _ (sym (c .before .before .before .before .fields .given .1) ∙ c .before .before .before .before .before .before .taken .ensures) in
-    rw (g .1, presented-refused (a .offset .now) _ (reading-bad (offsetPresented (a .offset .now)) _ (sym (c .enum-told2 .given .1) ∙ c .before .before .presented .ensures)))
+    rw (verdict-parts (a .variable) (a .format) (a .check) (a .block .now) (a .account .now) (a .table .now) (a .enciphered .now) (a .offset .now), g .1, presented-refused (a .offset .now) _ (reading-bad (offsetPresented (a .offset .now)) _ (sym (c .enum-told2 .given .1) ∙ c .before .before .presented .ensures)))
 
 paired-requires : tie.Need-paired-requires
 paired-requires c κs =
@@ -63,12 +61,11 @@ refusal-requires : tie.Need-refusal-requires
 refusal-requires c κs = search needs
 
 returns-3 : tie.Need-returns-3
-unfolding offsetVerdict
 returns-3 c =
     let a = c .before .before .before .before .before .before .before .before .before .before .before .before .before .before .before .before .before .args in
     let s = presented-held (a .offset .now) _ (sym (c .before .before .before .before .before .shown .given .1) ∙ c .before .before .before .before .before .before .before .presented .ensures) in
     let q = given-incomparable (a .format) (a .check) (a .block .now) (a .account .now) (a .table .now) (a .enciphered .now) (bytes-below (a .block .now) (c .before .before .before .before .before .before .before .before .before .before .before .before .before .before .before .before .shared-slice-known .given)) (bytes-below (a .enciphered .now) (c .before .before .before .before .before .before .before .before .before .before .before .before .before .shared-slice-known4 .given)) _ (sym (c .before .before .before .before .before .before .before .before .before .fields .given .1) ∙ c .before .before .before .before .before .before .before .before .before .before .before .taken .ensures) _ (sym (c .before .enum-told3 .given .1) ∙ c .before .before .before .paired .ensures) in
-    rw (q .1, s .1, q .2) (ap Refused (c .refusal .ensures ∙ ap refusalIn (c .before .enum-told3 .given .1)))
+    rw (verdict-parts (a .variable) (a .format) (a .check) (a .block .now) (a .account .now) (a .table .now) (a .enciphered .now) (a .offset .now), q .1, s .1, q .2) (ap Refused (c .refusal .ensures ∙ ap refusalIn (c .before .enum-told3 .given .1)))
 
 verdict-on-requires : tie.Need-verdict-on-requires
 verdict-on-requires c κs =
@@ -78,12 +75,11 @@ verdict-on-requires c κs =
     (p .4, s .2)
 
 returns-4 : tie.Need-returns-4
-unfolding offsetVerdict
 returns-4 c =
     let a = c .before .before .before .before .before .before .before .before .before .before .before .before .before .before .before .before .before .before .args in
     let s = presented-held (a .offset .now) _ (sym (c .before .before .before .before .before .before .shown .given .1) ∙ c .before .before .before .before .before .before .before .before .presented .ensures) in
     let p = given-compared (a .format) (a .check) (a .block .now) (a .account .now) (a .table .now) (a .enciphered .now) (bytes-below (a .block .now) (c .before .before .before .before .before .before .before .before .before .before .before .before .before .before .before .before .before .shared-slice-known .given)) (bytes-below (a .enciphered .now) (c .before .before .before .before .before .before .before .before .before .before .before .before .before .before .shared-slice-known4 .given)) _ (sym (c .before .before .before .before .before .before .before .before .before .before .fields .given .1) ∙ c .before .before .before .before .before .before .before .before .before .before .before .before .taken .ensures) _ (sym (c .before .before .comparison .given .1) ∙ c .before .before .before .before .paired .ensures) in
-    rw (p .1, s .1, p .3) (c .verdict-on .ensures ∙ ap₂ (λ (os : List ℕ) (q : List ℕ × List ℕ). rowOf (verdictOn (a .variable) (a .check) os q)) (s .3) (p .5))
+    rw (verdict-parts (a .variable) (a .format) (a .check) (a .block .now) (a .account .now) (a .table .now) (a .enciphered .now) (a .offset .now), p .1, s .1, p .3) (c .verdict-on .ensures ∙ ap₂ (λ (os : List ℕ) (q : List ℕ × List ℕ). rowOf (verdictOn (a .variable) (a .check) os q)) (s .3) (p .5))
 
 pub judged-verdict-spec : {M : Type 1} → statement M
 judged-verdict-spec =
