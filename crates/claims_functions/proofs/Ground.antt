@@ -1,7 +1,7 @@
 -- One answer to every promise of the ground: each function cites the law of its shape.
 -- Assumes nothing.
 use Rattle.claims_functions.specs.Ground.{NibblesSettled, AlphabetSettled, NumbersSettled, SettingsSettled, FormatsSettled, PinsSettled, ClassroomSettled}
-use Rattle.claims_functions.proofs.Once.{settled, left, replied}
+use Rattle.claims_functions.proofs.Once.{settled, left, replied, verdict}
 
 pub nibbles-once : NibblesSettled
 nibbles-once = record {
@@ -59,6 +59,7 @@ formats-once = record {
 
 pub pins-once : PinsSettled
 pins-once = record {
+  Verdict·reply = λ κs a r r′ ends ends′. verdict;
   Reading·refusal = λ κs a r r′ ends ends′. settled;
   Row·refusal = λ κs a r r′ ends ends′. settled;
   sized-row = λ κs a r r′ ends ends′. settled;

@@ -61,6 +61,7 @@ pub record FormatsSettled : Type 0 where
 
 -- every public function of pins
 pub record PinsSettled : Type 0 where
+  pub Verdict·reply : Settled Pins.Verdict.reply.ended Pins.Verdict.reply.Reads.Learnt
   pub Reading·refusal : Settled Pins.Reading.refusal.ended Pins.Reading.refusal.Reads.Learnt
   pub Row·refusal : Settled Pins.Row.refusal.ended Pins.Row.refusal.Reads.Learnt
   pub sized-row : Settled Pins.sized_row.ended Pins.sized_row.Reads.Learnt

@@ -21,7 +21,7 @@ use Rattle.numbers.proofs.Laws.{passed, failed, then-done}
 use Rattle.numbers.specs.declared.Refusal.{Refusal}
 use Rattle.numbers.specs.declared.Refusal.the-variants.{Field15, Block20, Length24}
 use Rattle.pins.specs.Pins.{digit, pinLength, pinHanded, digitsHanded, padded, accountOf, accountField, sized}
-use Rattle.pins.specs.Answers.{countOf, pinOf, readingOf, rowOf}
+use Rattle.pins.specs.Answers.{countOf, pinOf, readingOf, rowOf, verdictOf, verdictSays}
 use Rattle.pins.specs.declared.Pin.{Pin}
 use Rattle.pins.specs.declared.Count.the-variants.{Of, Bad}
 use Rattle.pins.specs.declared.Reading.the-variants as reading
@@ -158,6 +158,13 @@ pub digits-below : (cs : List ℕ) → allOf Digit cs ≡ true → Below 10 (map
 unfolding allOf
 digits-below [] e = tt
 digits-below (c ∷ cs) e = (digit-value c (and-left (admits Digit c) (allOf Digit cs) e), digits-below cs (and-right (admits Digit c) (allOf Digit cs) e))
+
+-- ---- the outcome behind a verdict
+
+-- where 00 writes nothing, the verdict says what was judged
+pub verdict-said : (o : Outcome (List ℕ)) → ((ws : List ℕ) → o ≡ done ws → ws ≡ []) → verdictSays (verdictOf o) ≡ o
+verdict-said (done ws) nothing = ap done (sym (nothing ws refl))
+verdict-said (refused q) nothing = refl
 
 -- ---- a chain in parts
 

@@ -1,6 +1,6 @@
 -- The answers of the checks as values of the code: what the paper's outcome is for each.
 use Prim.Native.Nat.{ℕ}
-use mathlib.Core.List.{List}
+use mathlib.Core.List.{List, []}
 use lib.ListN.{length}
 use Rattle.nibbles.specs.Nibbles.{word}
 use Rattle.numbers.specs.Numbers.{Outcome, done, refused}
@@ -10,9 +10,11 @@ use Rattle.pins.specs.declared.Pin.{Pin}
 use Rattle.pins.specs.declared.Reading.{Reading}
 use Rattle.pins.specs.declared.Row.{Row}
 use Rattle.pins.specs.declared.Count.{Count}
+use Rattle.pins.specs.declared.Verdict.{Verdict}
 use Rattle.pins.specs.declared.Count.the-variants as count
 use Rattle.pins.specs.declared.Reading.the-variants as reading
 use Rattle.pins.specs.declared.Row.the-variants as held
+use Rattle.pins.specs.declared.Verdict.the-variants as verdict
 
 -- a count, or the refusal
 abbrev pub countOf : Outcome ℕ → Count
@@ -42,3 +44,13 @@ refusalIn (reading.Bad q) = q
 abbrev pub refusedIn : Row → Refusal
 refusedIn (held.Held w) = Field15
 refusedIn (held.Refused q) = q
+
+-- a verdict, or why there is none: 01 is a refusal, as the paper's table has it
+abbrev pub verdictOf : Outcome (List ℕ) → Verdict
+verdictOf (done ws) = verdict.Verified
+verdictOf (refused q) = verdict.Refused q
+
+-- what a verdict says
+abbrev pub verdictSays : Verdict → Outcome (List ℕ)
+verdictSays verdict.Verified = done []
+verdictSays (verdict.Refused q) = refused q

@@ -1,14 +1,16 @@
 // PINs, accounts and blocks as values: rows of nibbles in words. Each is judged by one routine.
 ghost use mathlib.Core.Path.{_≡_};
-ghost use mathlib.Core.List.{_++_, map};
+ghost use mathlib.Core.List.{[], _++_, map};
 ghost use Prim.Native.Nat.{_^_, _<_, _≤_};
 ghost use lib.ListN.{length, drop};
 ghost use Rattle.nibbles.specs.Nibbles.{word, row, leading};
 ghost use Rattle.alphabet.specs.Alphabet.{admits, valueOf, characters};
+ghost use Rattle.numbers.specs.Promise.{Does, quietly};
 ghost use Rattle.pins.specs.Pins.{pinLength, pinHanded, digitsHanded, accountOf, accountField, sized};
-ghost use Rattle.pins.specs.Answers.{countOf, readingOf, rowOf, refusalIn, refusedIn};
+ghost use Rattle.pins.specs.Answers.{countOf, readingOf, rowOf, refusalIn, refusedIn, verdictSays};
 use alphabet::Class;
 use numbers::Refusal;
+use numbers::Reply;
 
 // A PIN as a value: its digits are a row in a word, the first lowest.
 pub struct Pin {
@@ -32,6 +34,24 @@ pub enum Reading {
 pub enum Row {
     Held(u64),
     Refused(Refusal),
+}
+
+// A verdict 00, or why there is none: 01 too.
+pub enum Verdict {
+    Verified,
+    Refused(Refusal),
+}
+
+impl Verdict {
+    // The reply to a call for a verdict, which writes nothing.
+    pub fn reply(self) -> Reply
+        ensures { λ r. ⌜ Does (quietly (verdictSays self)) [] r [] ⌝ }
+    {
+        match self {
+            Verdict::Verified => Reply::done(0),
+            Verdict::Refused(q) => Reply::refused(q),
+        }
+    }
 }
 
 impl Reading {

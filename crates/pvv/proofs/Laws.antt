@@ -385,10 +385,6 @@ verdict-nothing code index block account enciphered pvv ws e =
     let d = then-done (pinRead code (g .0)) _ ws (p .2) in
     sym (passed Unverified01 (same (pvvOf (m .0)) (p .0)) [] ws (d .2) .1)
 
-pub none-word : 0 ≡ word []
-unfolding word
-none-word = refl
-
 -- ---- the call that makes the PVV
 
 module _ (enciphered : List ℕ) (room : ℕ) where

@@ -5,9 +5,9 @@ ghost use Prim.Native.Nat.{_-_, _^_, _<_, _≤_};
 ghost use lib.ListN.{length, take};
 ghost use lib.Dec.{leb};
 ghost use Rattle.nibbles.specs.Nibbles.{word, row, within, same};
-ghost use Rattle.numbers.specs.Numbers.{unless};
 ghost use Rattle.numbers.specs.Promise.{Does, quietly};
-ghost use Rattle.pins.specs.Answers.{pinOf, readingOf, rowOf};
+ghost use Rattle.pins.specs.Pins.{verdict};
+ghost use Rattle.pins.specs.Answers.{pinOf, readingOf, rowOf, verdictOf};
 ghost use Rattle.blocks.specs.Answers.{blockOf, digitsOf};
 ghost use Rattle.pvv.specs.Pvv.{those, pvvOf, inputRow, presented, pvvGiven, pinRead, pvvInput, pvvMade, pvvVerdict};
 ghost use Rattle.pvv.specs.Answers.{givenOf, fieldsRefusal, rowsIn, Taken};
@@ -18,6 +18,7 @@ use numbers::Reply;
 use pins::Pin;
 use pins::Reading;
 use pins::Row;
+use pins::Verdict;
 
 // The rows that a call was given, and its key index.
 pub struct Rows {
@@ -203,14 +204,14 @@ fn presented_row(pvv: &[u8]) -> Row
 }
 
 // The verdict on four digits that are presented.
-fn compared(enciphered: u64, shown: u64) -> Row
+fn compared(enciphered: u64, shown: u64) -> Verdict
     requires { ⌜ shown < 16 ^ 4 ⌝ }
-    ensures { λ r. ⌜ r ≡ rowOf (unless Refusal.Unverified01 (same (pvvOf (row 16 enciphered)) (row 4 shown)) []) ⌝ }
+    ensures { λ r. ⌜ r ≡ verdictOf (verdict (same (pvvOf (row 16 enciphered)) (row 4 shown))) ⌝ }
 {
     if digits_of(enciphered) != shown {
-        return Row::Refused(Refusal::Unverified01);
+        return Verdict::Refused(Refusal::Unverified01);
     }
-    Row::Held(0)
+    Verdict::Verified
 }
 
 // Judges the call that gives the verdict: 15 for block, account, index, enciphered input and PVV, 23, 69, the block, 01.
@@ -221,24 +222,24 @@ fn judged_verdict(
     account: &[u8],
     enciphered: &[u8],
     pvv: &[u8],
-) -> Row
-    ensures { λ r. ⌜ r ≡ rowOf (pvvVerdict format index (now (block .entry)) (now (account .entry)) (now (enciphered .entry)) (now (pvv .entry))) ⌝ }
+) -> Verdict
+    ensures { λ r. ⌜ r ≡ verdictOf (pvvVerdict format index (now (block .entry)) (now (account .entry)) (now (enciphered .entry)) (now (pvv .entry))) ⌝ }
 {
     let fields = judged_fields(format, index, block, account);
     let Given::Of(rows) = fields else {
-        return Row::Refused(fields.refusal());
+        return Verdict::Refused(fields.refusal());
     };
     let input = pins::sized_row(enciphered, 8);
     let Row::Held(made) = input else {
-        return Row::Refused(Refusal::Field15);
+        return Verdict::Refused(Refusal::Field15);
     };
     let presented = presented_row(pvv);
     let Row::Held(shown) = presented else {
-        return Row::Refused(Refusal::Field15);
+        return Verdict::Refused(Refusal::Field15);
     };
     let reading = read_by(format, rows);
     let Reading::Got(_) = reading else {
-        return Row::Refused(reading.refusal());
+        return Verdict::Refused(reading.refusal());
     };
     compared(made, shown)
 }
@@ -254,9 +255,5 @@ pub fn pvv_verdict(
 ) -> Reply
     ensures { λ r. ⌜ Does (quietly (pvvVerdict format index (now (block .entry)) (now (account .entry)) (now (enciphered .entry)) (now (pvv .entry)))) [] r [] ⌝ }
 {
-    let judged = judged_verdict(format, index, block, account, enciphered, pvv);
-    let Row::Held(_) = judged else {
-        return Reply::refused(judged.refusal());
-    };
-    Reply::done(0)
+    judged_verdict(format, index, block, account, enciphered, pvv).reply()
 }

@@ -3,7 +3,7 @@ ghost use mathlib.Core.Path.{_≡_};
 ghost use mathlib.Core.List.{[]};
 ghost use Prim.Native.Nat.{_^_, _<_};
 ghost use Rattle.numbers.specs.Promise.{Does, quietly};
-ghost use Rattle.pins.specs.Answers.{rowOf};
+ghost use Rattle.pins.specs.Answers.{verdictOf};
 ghost use Rattle.blocks.specs.Answers.{digitsOf};
 ghost use Rattle.offsets.specs.Answers.{pairIn, Fit};
 ghost use Rattle.verdicts.specs.Verdicts.{verdictOn, offsetVerdict};
@@ -14,25 +14,25 @@ use offsets::Comparison;
 use offsets::Given;
 use pins::Pin;
 use pins::Reading;
-use pins::Row;
+use pins::Verdict;
 use settings::Settings;
 
-// 81 for the offset's length, then the verdict; 00 is a row of nothing.
-pub fn verdict_on(variable: bool, check: u32, presented: Pin, p: Compared) -> Row
+// 81 for the offset's length, then the verdict.
+pub fn verdict_on(variable: bool, check: u32, presented: Pin, p: Compared) -> Verdict
     requires { ⌜ Fit p × (presented .digits < 16 ^ presented .length) ⌝ }
-    ensures { λ r. ⌜ r ≡ rowOf (verdictOn variable check (digitsOf presented) (pairIn p)) ⌝ }
+    ensures { λ r. ⌜ r ≡ verdictOf (verdictOn variable check (digitsOf presented) (pairIn p)) ⌝ }
 {
     let made = offsets::offset_for(variable, check, p);
     let Reading::Got(offset) = made else {
-        return Row::Refused(Refusal::Check81);
+        return Verdict::Refused(Refusal::Check81);
     };
     if presented.length != offset.length {
-        return Row::Refused(Refusal::Check81);
+        return Verdict::Refused(Refusal::Check81);
     }
     if presented.digits != offset.digits {
-        return Row::Refused(Refusal::Unverified01);
+        return Verdict::Refused(Refusal::Unverified01);
     }
-    Row::Held(0)
+    Verdict::Verified
 }
 
 // Judges the verdict: 15, the presented offset among them, 23, 69, 25, the block, 81.
@@ -45,20 +45,20 @@ fn judged_verdict(
     table: &[u8],
     enciphered: &[u8],
     offset: &[u8],
-) -> Row
-    ensures { λ r. ⌜ r ≡ rowOf (offsetVerdict variable format check (now (block .entry)) (now (account .entry)) (now (table .entry)) (now (enciphered .entry)) (now (offset .entry))) ⌝ }
+) -> Verdict
+    ensures { λ r. ⌜ r ≡ verdictOf (offsetVerdict variable format check (now (block .entry)) (now (account .entry)) (now (table .entry)) (now (enciphered .entry)) (now (offset .entry))) ⌝ }
 {
     let fields = offsets::taken(format, check, block, account, table, enciphered);
     let Given::Of(rows) = fields else {
-        return Row::Refused(Refusal::Field15);
+        return Verdict::Refused(Refusal::Field15);
     };
     let shown = ibm3624::presented(offset);
     let Reading::Got(presented) = shown else {
-        return Row::Refused(Refusal::Field15);
+        return Verdict::Refused(Refusal::Field15);
     };
     let comparison = offsets::paired(format, table, rows);
     let Comparison::Of(p) = comparison else {
-        return Row::Refused(comparison.refusal());
+        return Verdict::Refused(comparison.refusal());
     };
     verdict_on(variable, check, presented, p)
 }
@@ -86,8 +86,5 @@ pub fn offset_verdict(
         enciphered,
         offset,
     );
-    let Row::Held(_) = judged else {
-        return Reply::refused(judged.refusal());
-    };
-    Reply::done(0)
+    judged.reply()
 }

@@ -1,9 +1,8 @@
 -- `pvv::compared` meets its contract.
 -- Assumes nothing.
-use mathlib.Core.Path.{ap, sym, _∙_}
+use mathlib.Core.Path.{sym, _∙_}
 use borrow.Author.Needs.{needs}
-use Rattle.pvv.proofs.Laws.{verdict-same, verdict-other, none-word}
-use Rattle.pins.specs.declared.Row.the-variants.{Held}
+use Rattle.pvv.proofs.Laws.{verdict-same, verdict-other}
 use Rattle.pvv.proofs.compared.Statement.{statement}
 use Rattle.pvv.proofs.compared.Tie as tie
 
@@ -18,7 +17,7 @@ returns c =
 returns-2 : tie.Need-returns-2
 returns-2 c =
     let a = c .before .before .args in
-    rw (verdict-same (a .enciphered) (a .shown) (c .before .before .pre) (sym (c .before .digits-of .ensures) ∙ c .if1 .left)) (ap Held none-word)
+    rw (verdict-same (a .enciphered) (a .shown) (c .before .before .pre) (sym (c .before .digits-of .ensures) ∙ c .if1 .left))
 
 pub compared-spec : {M : Type 1} → statement M
 compared-spec = tie.close (tie.spec digits-of-requires returns returns-2)

@@ -8,9 +8,9 @@ use Rattle.pvv.proofs.Laws.{pvv-parts, fields-of, fields-bad, behind-he
 use Rattle.pvv.specs.Answers.{fieldsRefusal, rowsIn}
 use Rattle.pvv.specs.Pvv.{presented, pinRead, pvvOf}
 use Rattle.pins.proofs.Laws.{sized-held, sized-not, block-row, reading-got, reading-bad}
-use Rattle.pins.specs.declared.Row.the-variants.{Refused}
+use Rattle.pins.specs.declared.Verdict.the-variants.{Refused}
 use Rattle.pins.specs.Pins.{verdict}
-use Rattle.pins.specs.Answers.{rowOf, refusalIn}
+use Rattle.pins.specs.Answers.{verdictOf, refusalIn}
 use Rattle.nibbles.proofs.Bytes.{bytes-below}
 use Rattle.nibbles.specs.Nibbles.{nibs, same}
 use Rattle.pvv.proofs.judged_verdict.Statement.{statement}
@@ -102,7 +102,7 @@ returns-5 c =
     let d = reading-got (pinRead (a .format) (rowsIn (c .before .before .before .before .before .before .before .before .before .before .before .before .before .fields .given .0 .0))) _ (sym (c .before .enum-told4 .given .1) ∙ c .before .before .before .read-by .ensures) in
     let input = block-row (a .enciphered .now) (nibs (a .enciphered .now)) _ (m .0) (bytes-below (a .enciphered .now) (c .before .before .before .before .before .before .before .before .before .before .before .before .before .before .before .before .before .shared-slice-known3 .given)) (m .1) in
     let shown = presented-row (a .pvv .now) (p .0) _ (p .1) (p .2) .0 in
-    rw (pvv-parts (a .format) (a .index) (a .block .now) (a .account .now) (a .enciphered .now) (a .pvv .now), g .0, m .0, p .1, d .1) (c .compared .ensures ∙ ap₂ (λ (es ps : List ℕ). rowOf (verdict (same (pvvOf es) ps))) input shown)
+    rw (pvv-parts (a .format) (a .index) (a .block .now) (a .account .now) (a .enciphered .now) (a .pvv .now), g .0, m .0, p .1, d .1) (c .compared .ensures ∙ ap₂ (λ (es ps : List ℕ). verdictOf (verdict (same (pvvOf es) ps))) input shown)
 
 pub judged-verdict-spec : {M : Type 1} → statement M
 judged-verdict-spec =

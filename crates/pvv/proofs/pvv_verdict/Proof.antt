@@ -1,58 +1,27 @@
 -- `pvv::pvv_verdict` meets its contract.
 -- Assumes nothing.
-use mathlib.Core.List.{[]}
-use mathlib.Core.Path.{ap, refl, _∙_}
+use mathlib.Core.Path.{ap, _∙_}
 use borrow.Author.Needs.{needs}
-use Rattle.pvv.proofs.Laws.{behind-held, behind-refused, verdict-nothing}
+use Rattle.pvv.proofs.Laws.{verdict-nothing}
 use Rattle.pvv.specs.Pvv.{pvvVerdict}
-use Rattle.pins.specs.Answers.{refusedIn}
-use Rattle.numbers.proofs.Laws.{does-refuse, does-write}
-use Rattle.numbers.specs.Numbers.{done, numberOf}
+use Rattle.pins.proofs.Laws.{verdict-said}
+use Rattle.pins.specs.Answers.{verdictSays}
+use Rattle.numbers.proofs.Laws.{does-as}
 use Rattle.pvv.proofs.pvv_verdict.Statement.{statement}
 use Rattle.pvv.proofs.pvv_verdict.Tie as tie
 
 judged-verdict-requires : tie.Need-judged-verdict-requires
 judged-verdict-requires c κs = search needs
 
-enum-told : tie.Need-enum-told
-enum-told c = search needs
-
-enum-told-2 : tie.Need-enum-told-2
-enum-told-2 c = search needs
-
-refusal-requires : tie.Need-refusal-requires
-refusal-requires c κs = search needs
-
-refused-requires : tie.Need-refused-requires
-refused-requires c κs = search needs
+reply-requires : tie.Need-reply-requires
+reply-requires c κs = search needs
 
 returns : tie.Need-returns
 returns c =
-    let a = c .before .before .before .before .before .before .before .before .before .args in
+    let a = c .before .before .before .before .before .before .args in
     let o = pvvVerdict (a .format) (a .index) (a .block .now) (a .account .now) (a .enciphered .now) (a .pvv .now) in
-    let q = c .before .before .enum-told2 .given .1 in
-    does-refuse o _ [] (c .refused .result) (behind-refused o _ (c .before .before .before .before .judged-verdict .ensures) _ q) (c .refused .ensures .0 ∙ ap numberOf (c .before .refusal .ensures ∙ ap refusedIn q)) (c .refused .ensures .1)
-
-done-requires : tie.Need-done-requires
-done-requires c κs = search needs
-
-returns-2 : tie.Need-returns-2
-returns-2 c =
-    let a = c .before .before .before .before .before .before .before .before .args in
-    let o = pvvVerdict (a .format) (a .index) (a .block .now) (a .account .now) (a .enciphered .now) (a .pvv .now) in
-    let t = behind-held o _ (c .before .before .before .judged-verdict .ensures) _ (c .before .enum-told .given .1) in
-    let none = verdict-nothing (a .format) (a .index) (a .block .now) (a .account .now) (a .enciphered .now) (a .pvv .now) (t .0) (t .1) in
-    does-write o [] [] [] (c .done .result) (t .1 ∙ ap done none) (c .done .ensures .0) (c .done .ensures .1) refl
+    let nothing = verdict-nothing (a .format) (a .index) (a .block .now) (a .account .now) (a .enciphered .now) (a .pvv .now) in
+    does-as (verdictSays (c .before .judged-verdict .result)) o (ap verdictSays (c .before .judged-verdict .ensures) ∙ verdict-said o nothing) (c .reply .ensures)
 
 pub pvv-verdict-spec : {M : Type 1} → statement M
-pvv-verdict-spec =
-    tie.close
-    (tie.spec
-    judged-verdict-requires
-    enum-told
-    enum-told-2
-    refusal-requires
-    refused-requires
-    returns
-    done-requires
-    returns-2)
+pvv-verdict-spec = tie.close (tie.spec judged-verdict-requires reply-requires returns)

@@ -10,8 +10,8 @@ use Rattle.offsets.specs.Answers.{refusalIn}
 use Rattle.verdicts.specs.Verdicts.{verdictOn}
 use Rattle.ibm3624.specs.Ibm3624.{offsetPresented}
 use Rattle.pins.proofs.Laws.{reading-bad}
-use Rattle.pins.specs.declared.Row.the-variants.{Refused}
-use Rattle.pins.specs.Answers.{rowOf}
+use Rattle.pins.specs.declared.Verdict.the-variants.{Refused}
+use Rattle.pins.specs.Answers.{verdictOf}
 use Rattle.nibbles.proofs.Bytes.{bytes-below}
 use Rattle.verdicts.proofs.judged_verdict.Statement.{statement}
 use Rattle.verdicts.proofs.judged_verdict.Tie as tie
@@ -79,7 +79,7 @@ returns-4 c =
     let a = c .before .before .before .before .before .before .before .before .before .before .before .before .before .before .before .before .before .before .args in
     let s = presented-held (a .offset .now) _ (sym (c .before .before .before .before .before .before .shown .given .1) ∙ c .before .before .before .before .before .before .before .before .presented .ensures) in
     let p = given-compared (a .format) (a .check) (a .block .now) (a .account .now) (a .table .now) (a .enciphered .now) (bytes-below (a .block .now) (c .before .before .before .before .before .before .before .before .before .before .before .before .before .before .before .before .before .shared-slice-known .given)) (bytes-below (a .enciphered .now) (c .before .before .before .before .before .before .before .before .before .before .before .before .before .before .shared-slice-known4 .given)) _ (sym (c .before .before .before .before .before .before .before .before .before .before .fields .given .1) ∙ c .before .before .before .before .before .before .before .before .before .before .before .before .taken .ensures) _ (sym (c .before .before .comparison .given .1) ∙ c .before .before .before .before .paired .ensures) in
-    rw (verdict-parts (a .variable) (a .format) (a .check) (a .block .now) (a .account .now) (a .table .now) (a .enciphered .now) (a .offset .now), p .1, s .1, p .3) (c .verdict-on .ensures ∙ ap₂ (λ (os : List ℕ) (q : List ℕ × List ℕ). rowOf (verdictOn (a .variable) (a .check) os q)) (s .3) (p .5))
+    rw (verdict-parts (a .variable) (a .format) (a .check) (a .block .now) (a .account .now) (a .table .now) (a .enciphered .now) (a .offset .now), p .1, s .1, p .3) (c .verdict-on .ensures ∙ ap₂ (λ (os : List ℕ) (q : List ℕ × List ℕ). verdictOf (verdictOn (a .variable) (a .check) os q)) (s .3) (p .5))
 
 pub judged-verdict-spec : {M : Type 1} → statement M
 judged-verdict-spec =

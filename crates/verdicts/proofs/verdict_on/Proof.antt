@@ -1,6 +1,5 @@
 -- `verdicts::verdict_on` meets its contract.
 -- Assumes nothing.
-use mathlib.Core.List.{[]}
 use mathlib.Core.Path.{ap, sym, _∙_}
 use borrow.Author.Needs.{needs}
 use Rattle.verdicts.proofs.Laws.{verdict-long, verdict-other-length, verdict-other, verdict-same}
@@ -8,9 +7,7 @@ use Rattle.offsets.specs.Answers.{pairIn}
 use Rattle.offsets.specs.Offsets.{offsetFor}
 use Rattle.blocks.specs.Answers.{digitsOf}
 use Rattle.pins.proofs.Laws.{reading-got, reading-bad}
-use Rattle.pins.specs.declared.Row.the-variants.{Held}
 use Rattle.pins.specs.declared.Pin.{Pin}
-use Rattle.nibbles.proofs.Rows.{word-none}
 use Rattle.verdicts.proofs.verdict_on.Statement.{statement}
 use Rattle.verdicts.proofs.verdict_on.Tie as tie
 
@@ -58,7 +55,7 @@ returns-4 c =
     let h = reading-got o _ (sym (c .before .before .before .before .before .before .before .made .given .1) ∙ c .before .before .before .before .before .before .before .before .before .offset-for .ensures) in
     let n = ap (λ (x : Pin). x .length) (h .2) in
     let d = ap (λ (x : Pin). x .digits) (h .2) in
-    rw (verdict-same (a .variable) (a .check) (a .p) (a .presented) (c .before .before .before .before .before .before .before .before .before .before .pre .1) (h .0) (h .1) (c .before .before .before .if1 .left ∙ n) (c .if2 .left ∙ d)) (ap Held (word-none []))
+    rw (verdict-same (a .variable) (a .check) (a .p) (a .presented) (c .before .before .before .before .before .before .before .before .before .before .pre .1) (h .0) (h .1) (c .before .before .before .if1 .left ∙ n) (c .if2 .left ∙ d))
 
 pub verdict-on-spec : {M : Type 1} → statement M
 verdict-on-spec =
