@@ -9,9 +9,9 @@ use Rattle.nibbles.specs.Nibbles.{nibs, packs, xors, every, leading}
 use Rattle.alphabet.specs.Alphabet.{allOf, valueOf}
 use Rattle.formats.specs.Formats.{codeOf}
 use Rattle.blocks.specs.Blocks.{contents, readRow, writeRow, readBlock, writeBlock}
-use Rattle.validation.specs.Validation.{validationRow, validationBlock}
+use Rattle.validation.specs.Validation.{shapeOf, validationRow, validationBlock}
 use Rattle.ibm3624.specs.Ibm3624.{naturalPin, differences}
-use Rattle.offsets.specs.Offsets.{given, pinWithNatural, pinAndNatural, digitsGiven, offsetJudged, digitsJudged}
+use Rattle.offsets.specs.Offsets.{offsetJudged, digitsJudged}
 use Rattle.pvv.specs.Pvv.{those, pvvOf, inputRow, pvvGiven, pvvInput, pvvMade}
 use Rattle.claims_figures.specs.Figures.{AsPrinted, figures, AllFigures}
 
@@ -29,7 +29,7 @@ all-of (suc n) (x ∷ xs) e = ap (λ (t : List ℕ). x ∷ t) (all-of n xs (omeg
 
 -- the table, with as many unknown bytes as each block wants
 computed : (rest tail : List ℕ) → AsPrinted (figures (firsts 7 rest) (firsts 4 tail))
-unfolding nibs packs xors every leading allOf valueOf codeOf contents readRow writeRow readBlock writeBlock validationRow validationBlock naturalPin differences given pinWithNatural pinAndNatural digitsGiven offsetJudged digitsJudged those pvvOf inputRow pvvGiven pvvInput pvvMade
+unfolding nibs packs xors every leading allOf valueOf codeOf contents readRow writeRow readBlock writeBlock shapeOf validationRow validationBlock naturalPin differences offsetJudged digitsJudged those pvvOf inputRow pvvGiven pvvInput pvvMade
 computed rest tail = refl
 
 pub all-figures : AllFigures

@@ -15,7 +15,7 @@ use Rattle.alphabet.specs.Alphabet.{admits, allOf}
 use Rattle.alphabet.specs.declared.Class.the-variants.{CapitalHex}
 use Rattle.numbers.specs.Numbers.{done, andThen}
 use Rattle.numbers.specs.Promise.{quietly}
-use Rattle.validation.specs.Validation.{letterP, hexEnd, isTemplate, isWhole, validationRow, validationBlock}
+use Rattle.validation.specs.Validation.{letterP, hexEnd, isTemplate, isWhole, shapeOf, validationRow, validationBlock}
 use Rattle.claims_offsets.specs.Counted.{howMany, hexes, ens, ElevenAndN, PAndSixteen, ValidationExactly}
 
 -- ---- counting
@@ -156,7 +156,7 @@ valid-counted cs = by (eqb (getD cs 0 0) letterP) refl
 -- ---- the call
 
 row-number : (digits cs : List ℕ) → quietly (andThen (validationRow digits cs) (λ ns. done (packs ns))) .number ≡ cond (valid cs) 0 15
-unfolding validationRow
+unfolding shapeOf validationRow
 row-number digits cs = by (eqb (getD cs 0 0) letterP) (isWhole cs) (isTemplate cs) refl refl refl
   where
     by : (p w t : Bool) → eqb (getD cs 0 0) letterP ≡ p → isWhole cs ≡ w → isTemplate cs ≡ t → quietly (andThen (validationRow digits cs) (λ ns. done (packs ns))) .number ≡ cond (valid cs) 0 15
