@@ -1,9 +1,9 @@
 -- Laws of characters and classes.
 -- Assumes nothing.
-use Prim.Native.Nat.{ℕ, suc, _+_, _-_, _≤_, _<_}
+use Prim.Native.Nat.{ℕ, zero, suc, _+_, _-_, _%_, _≤_, _<_}
 use native.Mathlib.Nat.{mod-lt, add-suc}
 use native.Mathlib.Omega.{arith}
-use borrow.Author.Tests.{eq-eqb, ne-eqb}
+use borrow.Author.Tests.{eq-eqb, ne-eqb, lt-leb, leb-true}
 use native.Mathlib.Numerals.{add-one}
 use mathlib.Core.Path.{_≡_, refl, sym}
 use mathlib.Core.List.{List, [], _∷_}
@@ -13,10 +13,34 @@ use lib.Seq.{drop-cons, slice, slice-cons, slice-empty}
 use lib.Dec.{leb, eqb, lit<}
 use Rattle.alphabet.specs.Alphabet.{admits, allOf, begins, valueOf}
 use Rattle.alphabet.specs.declared.Class.{Class}
+use Rattle.alphabet.specs.declared.Class.the-variants.{Digit}
 
 pub value-below : (c : ℕ) → valueOf c < 16
 unfolding valueOf
 value-below c = mod-lt (cond (leb 0x41 c) (c - 0x37) (c - 0x30)) (lit< tt)
+
+-- ---- digits
+
+both : (a b : Bool) → (a && b) ≡ true → (a ≡ true) × (b ≡ true)
+both true b e = (refl, e)
+both false b e = absurd (let z : _≡_ {A = ℕ} 0 1 = cc in omega arith)
+
+-- a digit is 30 to 39 hex, and stands for its low nibble
+pub digit-span : (c : ℕ) → admits Digit c ≡ true → (0x30 ≤ c) × (c ≤ 0x39)
+digit-span c e = let b = both (leb 0x30 c) (leb c 0x39) e in (leb-true 0x30 c (b .0), leb-true c 0x39 (b .1))
+
+pub digit-low : (c : ℕ) → admits Digit c ≡ true → c % 16 ≡ valueOf c
+unfolding valueOf
+digit-low c e = let h = digit-span c e in rw (lt-leb 0x41 c (omega (arith, h .1))) (omega (arith, h .0, h .1))
+
+-- each of a run of digits is one
+pub digit-at : (cs : List ℕ) (i : ℕ) → allOf Digit cs ≡ true → i < length cs → admits Digit (getD cs i 0) ≡ true
+unfolding allOf
+digit-at [] i e h = absurd (omega arith)
+digit-at (c ∷ cs) zero e h = both (admits Digit c) (allOf Digit cs) e .0
+digit-at (c ∷ cs) (suc i) e h = digit-at cs i (both (admits Digit c) (allOf Digit cs) e .1) (omega arith)
+
+-- ---- every character of a class
 
 -- a verdict on the characters before, and what one more makes of it
 pub and-true : (b : Bool) → b ≡ (b && true)

@@ -1,5 +1,6 @@
 // Which characters a field is made of, and what a character stands for.
 ghost use mathlib.Core.Path.{_≡_};
+ghost use mathlib.Core.Bool.{true};
 ghost use Prim.Native.Nat.{_-_, _≤_};
 ghost use lib.ListN.{length, drop};
 ghost use lib.Seq.{slice};
@@ -84,4 +85,12 @@ pub fn value(c: u8) -> u8
     } else {
         0
     }
+}
+
+// What a digit stands for.
+pub fn digit(c: u8) -> u8
+    requires { ⌜ admits Class.Digit c ≡ true ⌝ }
+    ensures { λ r. ⌜ r ≡ valueOf c ⌝ }
+{
+    c & 15
 }

@@ -5,29 +5,26 @@ use mathlib.Core.Path.{_≡_, ap}
 use mathlib.Core.List.{List}
 use mathlib.Core.Bool.{Bool}
 use lib.ListN.{length}
-use Rattle.nibbles.specs.Nibbles.{word, row}
 use Rattle.nibbles.proofs.Lists.{Below}
 use Rattle.numbers.specs.Numbers.{refused}
 use Rattle.numbers.specs.declared.Refusal.{Refusal}
 use Rattle.settings.specs.declared.Settings.{Settings}
-use Rattle.pins.specs.Answers.{readingOf, rowOf}
+use Rattle.pins.specs.Answers.{readingOf}
 use Rattle.pins.specs.declared.Pin.{Pin}
 use Rattle.pins.specs.declared.Reading.the-variants as reading
 use Rattle.pins.proofs.Laws.{reading-got, reading-bad}
-use Rattle.validation.specs.Validation.{validationRow}
-use Rattle.validation.proofs.Laws.{row-sixteen}
 use Rattle.keybox.specs.KeyBox.{boxed}
 use Rattle.keybox.specs.Answers.{boxRead}
 use Rattle.keybox.specs.declared.Boxed.{Boxed}
 use Rattle.keybox.specs.declared.BoxRead.the-variants as box-read
 use Rattle.keybox.proofs.Laws.{box-found, box-bad}
+use Rattle.fields.specs.Fields.{unpointed}
 use Rattle.fields.specs.declared.Fault.{Fault}
-use Rattle.responses.specs.Answers.{askedRow, askedOf, answeredOf}
+use Rattle.responses.specs.Answers.{answeredOf}
 use Rattle.responses.specs.declared.Payload.the-variants.{Offset}
 use Rattle.responses.specs.declared.Answered.the-variants as answered
-use Rattle.responses.proofs.Laws.{row-asked}
-use Rattle.stages.specs.Stages.{accountIn, validationIn}
-use Rattle.stages.proofs.Laws.{values-length, values-below, values-row}
+use Rattle.pairing.specs.Pairing.{askedAt}
+use Rattle.pairing.specs.Answers.{boxRows}
 use Rattle.bk.proofs.Places.{placed}
 use Rattle.bk.proofs.Reading.{fields-found, fields-bad}
 use Rattle.bk.specs.Bk.{bkFields, bkAsk, bkFinish, bkAnswer}
@@ -47,17 +44,10 @@ module _ (settings : Settings) (s : List ℕ) (at : ℕ) where
   unfolding bkAsk
   ask-faulty f e = rw (fields-bad (bkFields (settings .restricted) s at) f e)
 
-  -- the row that the validation data stand for is that of the block
-  pub ask-row :
-      (p : Bk) → fields.Got p ≡ bkRead (bkFields (settings .restricted) s at) → (account : ℕ) → account ≡ word (accountIn s (p .offsetting))
-      → askedRow (rowOf (validationRow (row 12 account) (validationIn s (p .offsetting)))) ≡ askedOf (bkAsk settings s at)
+  -- behind the fields, the block that is asked for
+  pub ask-read : (p : Bk) → fields.Got p ≡ bkRead (bkFields (settings .restricted) s at) → bkAsk settings s at ≡ unpointed (askedAt s (p .offsetting))
   unfolding bkAsk
-  ask-row p e account a =
-      let inside = found-placed (settings .restricted) s at p e .account in
-      let from = p .offsetting .account in
-      rw (fields-found (bkFields (settings .restricted) s at) p e .1, values-row s from 12 inside account a)
-      (row-asked (validationRow (accountIn s (p .offsetting)) (validationIn s (p .offsetting)))
-      (λ ns. row-sixteen (accountIn s (p .offsetting)) (validationIn s (p .offsetting)) ns (values-length s from 12 inside) (values-below s from 12 inside)))
+  ask-read p e = rw (fields-found (bkFields (settings .restricted) s at) p e .1)
 
 -- ---- the answering call
 
@@ -76,22 +66,22 @@ module _ (settings : Settings) (g h : Bool) (s : List ℕ) (at : ℕ) (block enc
     module _ (b : Boxed) (small : Below 256 block) (little : Below 256 enciphered) (box : box-read.Got b ≡ boxRead (boxed (length s) g h block enciphered)) where
       -- there is no offset
       pub answer-unfinished :
-          (q : Refusal) → reading.Bad q ≡ readingOf (bkFinish (settings .variable) s p (row 16 (b .block), row 16 (b .enciphered)))
+          (q : Refusal) → reading.Bad q ≡ readingOf (bkFinish (settings .variable) s p (boxRows b))
           → bkAnswer settings g h s at block enciphered ≡ refused (record { refusal = q; field = 0; place = 0 })
       unfolding bkAnswer
       answer-unfinished q e =
           rw (
             fields-found (bkFields (settings .restricted) s at) p got .1,
             box-found (length s) g h block enciphered small little b box,
-            reading-bad (bkFinish (settings .variable) s p (row 16 (b .block), row 16 (b .enciphered))) q e,
+            reading-bad (bkFinish (settings .variable) s p (boxRows b)) q e,
           )
 
       -- there is one
       pub answer-made :
-          (ds : Pin) → reading.Got ds ≡ readingOf (bkFinish (settings .variable) s p (row 16 (b .block), row 16 (b .enciphered)))
+          (ds : Pin) → reading.Got ds ≡ readingOf (bkFinish (settings .variable) s p (boxRows b))
           → answered.With (Offset ds) (p .trailer) ≡ answeredOf (bkAnswer settings g h s at block enciphered)
       unfolding bkAnswer
       answer-made ds e =
-          let o = reading-got (bkFinish (settings .variable) s p (row 16 (b .block), row 16 (b .enciphered))) ds e in
+          let o = reading-got (bkFinish (settings .variable) s p (boxRows b)) ds e in
           rw (fields-found (bkFields (settings .restricted) s at) p got .1, box-found (length s) g h block enciphered small little b box, o .1)
           (ap (λ (x : Pin). answered.With (Offset x) (p .trailer)) (o .2))

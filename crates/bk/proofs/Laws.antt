@@ -2,30 +2,29 @@
 -- Assumes nothing.
 use Prim.Native.Nat.{ℕ}
 use native.Mathlib.Omega.{arith}
-use mathlib.Core.Path.{_≡_, refl, sym, ap, ap₂, _∙_}
+use mathlib.Core.Path.{_≡_, refl, ap}
 use mathlib.Core.List.{List}
 use mathlib.Core.Bool.{Bool, true, false}
 use lib.ListN.{length}
-use Rattle.nibbles.specs.Nibbles.{word, row, every}
-use Rattle.nibbles.proofs.Runs.{below-every}
+use Rattle.nibbles.specs.Nibbles.{row}
 use Rattle.numbers.specs.Numbers.{Outcome, done, refused, andThen}
 use Rattle.numbers.specs.declared.Refusal.{Refusal}
 use Rattle.numbers.specs.declared.Refusal.the-variants.{Check81, Weak86}
-use Rattle.pins.specs.Pins.{digit}
 use Rattle.pins.specs.Answers.{readingOf}
 use Rattle.pins.specs.declared.Pin.{Pin}
 use Rattle.pins.specs.declared.Reading.the-variants as reading
-use Rattle.pins.proofs.Laws.{digits-below, reading-got, reading-bad}
+use Rattle.pins.proofs.Laws.{reading-got, reading-bad}
 use Rattle.ibm3624.specs.Ibm3624.{covers, offsetOf}
-use Rattle.offsets.specs.Offsets.{pinWithNatural, offsetFor}
-use Rattle.offsets.specs.Answers.{comparisonOf, rowsIn, pairIn, Fit}
-use Rattle.offsets.specs.declared.Rows.{Rows}
+use Rattle.offsets.specs.Offsets.{offsetFor}
+use Rattle.offsets.specs.Answers.{comparisonOf, pairIn, Fit}
 use Rattle.offsets.specs.declared.Compared.{Compared}
 use Rattle.offsets.specs.declared.Comparison.the-variants as comparison
-use Rattle.offsets.proofs.Laws.{comparison-bad, with-natural-compared, covers-not}
+use Rattle.offsets.proofs.Laws.{comparison-bad, covers-not}
+use Rattle.keybox.specs.declared.Boxed.{Boxed}
 use Rattle.weak.specs.Weak.{isOn, weakPins}
-use Rattle.stages.specs.Stages.{part, accountIn, tableIn}
-use Rattle.stages.proofs.Laws.{values-row}
+use Rattle.pairing.specs.Pairing.{pairAt}
+use Rattle.pairing.specs.Answers.{boxRows}
+use Rattle.pairing.proofs.Laws.{pair-compared}
 use Rattle.bk.specs.Bk.{bkFinish}
 use Rattle.bk.specs.Answers.{Placed}
 use Rattle.bk.specs.declared.Bk.{Bk}
@@ -42,43 +41,25 @@ long-only variable check pair q e = go (covers variable check (length (pair .0))
     go (done m) c h = absurd (let z : _≡_ {A = ℕ} 0 1 = cc in omega arith)
     go (refused r) c h = rw (covers-not variable check (length (pair .0)) r c)
 
-module _
-    (variable : Bool) (s : List ℕ) (p : Bk) (rows : Rows) (table : ℕ) (placed : Placed s p)
-    (account : rows .account ≡ word (accountIn s (p .offsetting))) (tabled : table ≡ word (tableIn s (p .offsetting))) where
-  -- the PIN and its natural PIN, as the code finds them
-  abbrev pub found : Outcome (List ℕ × List ℕ)
-  found = pinWithNatural (p .sealed .format) (row 16 table) (rowsIn rows)
+module _ (variable : Bool) (s : List ℕ) (p : Bk) (boxed : Boxed) (placed : Placed s p) where
+  abbrev found : Outcome (List ℕ × List ℕ)
+  found = pairAt s (p .sealed) (p .offsetting) (boxRows boxed)
 
-  -- and as the definition has them
-  abbrev pub meant : Outcome (List ℕ × List ℕ)
-  meant = pinWithNatural (p .sealed .format) (tableIn s (p .offsetting)) (row 16 (rows .block), accountIn s (p .offsetting), row 16 (rows .enciphered))
-
-  abbrev pub finished : Outcome (List ℕ)
-  finished = bkFinish variable s p (row 16 (rows .block), row 16 (rows .enciphered))
-
-  table-row : row 16 table ≡ tableIn s (p .offsetting)
-  table-row = values-row s (p .offsetting .table) 16 (placed .table) table tabled
-
-  table-digits : every digit (row 16 table) ≡ true
-  table-digits = ap (every digit) table-row ∙ below-every 9 (tableIn s (p .offsetting)) (digits-below (part s (p .offsetting .table) 16) (placed .digits))
-
-  alike : found ≡ meant
-  alike =
-      ap₂ (λ (ts ds : List ℕ). pinWithNatural (p .sealed .format) ts (row 16 (rows .block), ds, row 16 (rows .enciphered)))
-      table-row (values-row s (p .offsetting .account) 12 (placed .account) (rows .account) account)
+  abbrev finished : Outcome (List ℕ)
+  finished = bkFinish variable s p (boxRows boxed)
 
   -- there is no PIN in the block
   pub finish-unread : (q : Refusal) → comparison.Bad q ≡ comparisonOf found → finished ≡ refused q
   unfolding bkFinish
-  finish-unread q e = rw (sym alike ∙ comparison-bad found q e)
+  finish-unread q e = rw (comparison-bad found q e)
 
   module _ (c : Compared) (got : comparison.Of c ≡ comparisonOf found) where
     -- the PIN and its natural PIN may be compared
     pub compared-fit : Fit c
-    compared-fit = with-natural-compared (p .sealed .format) table rows table-digits c got .2
+    compared-fit = pair-compared s (p .offsetting) (placed .offsetting) (p .sealed) boxed c got .0
 
-    pair-meant : meant ≡ done (pairIn c)
-    pair-meant = let w = with-natural-compared (p .sealed .format) table rows table-digits c got in sym alike ∙ w .1 ∙ ap done (sym (w .3))
+    pair-meant : found ≡ done (pairIn c)
+    pair-meant = pair-compared s (p .offsetting) (placed .offsetting) (p .sealed) boxed c got .1
 
     -- the check length is longer than the PIN
     pub finish-long : (q : Refusal) → reading.Bad q ≡ readingOf (offsetFor variable (p .offsetting .check) (pairIn c)) → finished ≡ refused Check81

@@ -2,26 +2,21 @@
 -- Assumes nothing.
 use Prim.Native.Nat.{ℕ, _+_, _-_, _≤_}
 use native.Mathlib.Omega.{arith}
-use mathlib.Core.Path.{_≡_, sym, ap, _∙_, subst}
+use mathlib.Core.Path.{_≡_, ap, _∙_, subst}
 use mathlib.Core.List.{List}
-use mathlib.Core.Bool.{Bool, true, not}
+use mathlib.Core.Bool.{Bool, not}
 use lib.ListN.{length, length-map, length-drop}
-use Rattle.nibbles.specs.Nibbles.{packs, every}
+use Rattle.nibbles.specs.Nibbles.{packs}
 use Rattle.nibbles.proofs.Lists.{Below}
-use Rattle.nibbles.proofs.Runs.{below-every}
 use Rattle.numbers.specs.Numbers.{done, andThen}
 use Rattle.numbers.specs.declared.Refusal.the-variants.{Weak86}
 use Rattle.numbers.proofs.Laws.{then-done, passed, value-of}
 use Rattle.settings.specs.declared.Settings.{Settings}
-use Rattle.pins.specs.Pins.{digit, lastOf}
-use Rattle.pins.proofs.Laws.{digits-below}
+use Rattle.pins.specs.Pins.{lastOf}
 use Rattle.blocks.proofs.Laws.{Sixteen, sixteen-bytes}
-use Rattle.validation.specs.Validation.{validationRow}
-use Rattle.validation.proofs.Laws.{row-sixteen}
 use Rattle.ibm3624.specs.Ibm3624.{covers, covered, offsetOf, moduloTen}
 use Rattle.ibm3624.proofs.Laws.{differences-length, reduced-below}
-use Rattle.offsets.specs.Offsets.{pinWithNatural, offsetFor}
-use Rattle.offsets.proofs.Laws.{with-natural-fit}
+use Rattle.offsets.specs.Offsets.{offsetFor}
 use Rattle.keybox.specs.KeyBox.{boxed}
 use Rattle.keybox.proofs.Laws.{boxed-sixteen}
 use Rattle.fields.specs.Fields.{Stage, read, faulty, onward, ruled, unpointed, pointing}
@@ -32,13 +27,15 @@ use Rattle.responses.proofs.Laws.{Fine, Sound}
 use Rattle.uses.specs.Uses.{pinKey, pvk}
 use Rattle.weak.specs.Weak.{isOn, weakPins}
 use Rattle.weak.specs.declared.Weak.{Weak}
-use Rattle.stages.specs.Stages.{keys, sealed, offsetting, weak, part, accountIn, tableIn, validationIn}
+use Rattle.stages.specs.Stages.{keys, sealed, offsetting, weak}
 use Rattle.stages.specs.declared.Keys.{Keys}
 use Rattle.stages.specs.declared.Sealed.{Sealed}
 use Rattle.stages.specs.declared.Offsetting.{Offsetting}
-use Rattle.stages.proofs.Laws.{values-length, values-below, offsetting-held, weak-held}
+use Rattle.stages.proofs.Laws.{offsetting-held, weak-held}
 use Rattle.endings.specs.Endings.{end}
 use Rattle.endings.proofs.Laws.{end-held}
+use Rattle.pairing.specs.Pairing.{askedAt, pairAt}
+use Rattle.pairing.proofs.Laws as pairing
 use Rattle.bk.specs.Bk.{weakMark, bkFields, bkAsk, bkFinish, bkAnswer}
 use Rattle.bk.specs.Answers.{Placed}
 use Rattle.bk.specs.declared.Bk.{Bk}
@@ -55,12 +52,7 @@ laid s ks block inputs pins mark at₆ at₁₀ at₁₁ past e₆ e₁₀ e₁�
     let listed = weak-held 10 weakMark s at₁₀ pins at₁₁ e₁₀ (held .onward) in
     let ended = end-held 11 ks s at₁₁ mark past e₁₁ (listed .1) in
     record {
-      account = held .account;
-      table = held .table;
-      digits = held .digits;
-      validation = held .validation;
-      shape = held .shape;
-      check = held .check;
+      offsetting = record { account = held .account; number = held .number; table = held .table; digits = held .digits; validation = held .validation; shape = held .shape; check = held .check };
       weak = listed .0;
       trailer = ended .0;
       tail = ended .1;
@@ -92,11 +84,7 @@ asked-row settings s at bytes e =
     let f = then-done (ruled (bkFields (settings .restricted) s at)) _ bytes e in
     let p = f .0 in
     let r = ruled-read (bkFields (settings .restricted) s at) p (f .1) in
-    let inside = placed (settings .restricted) s at p (r .0) (r .1) .account in
-    let v = then-done (unpointed (validationRow (accountIn s (p .offsetting)) (validationIn s (p .offsetting)))) _ bytes (f .2) in
-    let account = p .offsetting .account in
-    let made = pointing-done 0 0 (validationRow (accountIn s (p .offsetting)) (validationIn s (p .offsetting))) (v .0) (v .1) in
-    (v .0, row-sixteen (accountIn s (p .offsetting)) (validationIn s (p .offsetting)) (v .0) (values-length s account 12 inside) (values-below s account 12 inside) made, sym (value-of (v .2)))
+    pairing.asked-row s (p .offsetting) (placed (settings .restricted) s at p (r .0) (r .1) .offsetting) bytes (pointing-done 0 0 (askedAt s (p .offsetting)) bytes (f .2))
 
 -- it has eight bytes
 pub asked-eight : (settings : Settings) (s : List ℕ) (at : ℕ) (bytes : List ℕ) → bkAsk settings s at ≡ done bytes → length bytes ≡ 8
@@ -130,11 +118,10 @@ finish-within :
     → bkFinish variable s p rows ≡ done ds → (length ds ≤ 12) × Below 10 ds
 unfolding bkFinish
 finish-within variable s p rows ds inside b c e =
-    let n = then-done (pinWithNatural (p .sealed .format) (tableIn s (p .offsetting)) (rows .0, accountIn s (p .offsetting), rows .1)) _ ds e in
+    let n = then-done (pairAt s (p .sealed) (p .offsetting) rows) _ ds e in
     let o = then-done (offsetFor variable (p .offsetting .check) (n .0)) _ ds (n .2) in
     let same = passed Weak86 (not (isOn (n .0 .0) (weakPins (p .weak) s))) (o .0) ds (o .2) .1 in
-    let table : every digit (tableIn s (p .offsetting)) ≡ true = below-every 9 (tableIn s (p .offsetting)) (digits-below (part s (p .offsetting .table) 16) (inside .digits)) in
-    let fit = with-natural-fit (p .sealed .format) (tableIn s (p .offsetting)) (rows .0, accountIn s (p .offsetting), rows .1) b (values-length s (p .offsetting .account) 12 (inside .account)) c table (n .0) (n .1) in
+    let fit = pairing.pair-within s (p .offsetting) (inside .offsetting) (p .sealed) rows b c (n .0) (n .1) in
     let w = offset-within variable (p .offsetting .check) (n .0) (o .0) (fit .4) (o .1) in
     (subst (λ (os : List ℕ). length os ≤ 12) same (omega (arith, w .0, fit .1)), subst (Below 10) same (w .1))
 

@@ -3,19 +3,18 @@ use Prim.Native.Nat.{ℕ}
 use mathlib.Core.List.{List}
 use mathlib.Core.Bool.{Bool, not}
 use lib.ListN.{length}
-use Rattle.nibbles.specs.Nibbles.{packs}
 use Rattle.numbers.specs.Numbers.{Outcome, done, andThen, unless}
 use Rattle.numbers.specs.declared.Refusal.the-variants.{Weak86}
 use Rattle.settings.specs.declared.Settings.{Settings}
-use Rattle.validation.specs.Validation.{validationRow}
-use Rattle.offsets.specs.Offsets.{pinWithNatural, offsetFor}
+use Rattle.offsets.specs.Offsets.{offsetFor}
 use Rattle.keybox.specs.KeyBox.{boxed}
 use Rattle.fields.specs.Fields.{Stage, read, onward, Ruling, ruled, unpointed}
 use Rattle.responses.specs.Responses.{Payload, offset, answering}
 use Rattle.uses.specs.Uses.{pinKey, pvk}
 use Rattle.weak.specs.Weak.{isOn, weakPins}
-use Rattle.stages.specs.Stages.{keys, sealed, offsetting, weak, accountIn, tableIn, validationIn}
+use Rattle.stages.specs.Stages.{keys, sealed, offsetting, weak}
 use Rattle.endings.specs.Endings.{end}
+use Rattle.pairing.specs.Pairing.{askedAt, pairAt}
 use Rattle.bk.specs.declared.Bk.{Bk}
 
 -- the weak list's mark: "ours is the semicolon"
@@ -39,15 +38,14 @@ bkFields restricted s at₁ =
 unfoldable pub bkAsk : Settings → List ℕ → ℕ → Ruling (List ℕ)
 bkAsk settings s at =
     andThen (ruled (bkFields (settings .restricted) s at))
-    (λ p. andThen (unpointed (validationRow (accountIn s (p .offsetting)) (validationIn s (p .offsetting))))
-    (λ ns. done (packs ns)))
+    (λ p. unpointed (askedAt s (p .offsetting)))
 
 -- ---- the answering call
 
 -- "the block (20 or 24), 81, 86": the offset's digits
 unfoldable pub bkFinish : Bool → List ℕ → Bk → List ℕ × List ℕ → Outcome (List ℕ)
 bkFinish variable s p rows =
-    andThen (pinWithNatural (p .sealed .format) (tableIn s (p .offsetting)) (rows .0, accountIn s (p .offsetting), rows .1))
+    andThen (pairAt s (p .sealed) (p .offsetting) rows)
     (λ pair. andThen (offsetFor variable (p .offsetting .check) pair)
     (λ ds. unless Weak86 (not (isOn (pair .0) (weakPins (p .weak) s))) ds))
 

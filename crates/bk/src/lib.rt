@@ -1,13 +1,8 @@
 // The BK command: its stages joined, and its finish.
 ghost use mathlib.Core.Path.{_≡_};
-ghost use mathlib.Core.List.{map};
-ghost use Prim.Native.Nat.{_+_, _≤_};
-ghost use lib.ListN.{length};
-ghost use Rattle.nibbles.specs.Nibbles.{word, row};
-ghost use Rattle.alphabet.specs.Alphabet.{valueOf};
 ghost use Rattle.pins.specs.Answers.{readingOf};
 ghost use Rattle.responses.specs.Answers.{askedOf, answeredOf};
-ghost use Rattle.stages.specs.Stages.{part};
+ghost use Rattle.pairing.specs.Answers.{boxRows};
 ghost use Rattle.bk.specs.Bk.{bkFields, bkAsk, bkFinish, bkAnswer};
 ghost use Rattle.bk.specs.Answers.{bkRead, fieldsFault, Placed};
 use endings::End;
@@ -17,7 +12,6 @@ use keybox::BoxRead;
 use keybox::Boxed;
 use numbers::Refusal;
 use offsets::Comparison;
-use offsets::Rows;
 use pins::Reading;
 use responses::Answered;
 use responses::Asked;
@@ -92,15 +86,6 @@ pub fn read(restricted: bool, command: &[u8], start: Cursor) -> BkRead
     })
 }
 
-// The values of the digits at a place.
-fn digits_at(command: &[u8], from: usize, n: usize) -> u64
-    requires { ⌜ (n ≤ 16) × (from + n ≤ length (now command)) ⌝ }
-    ensures { λ r. ⌜ r ≡ word (map valueOf (part (now (command .entry)) from n)) ⌝ }
-{
-    let to = from + n;
-    pins::values(&command[from..to])
-}
-
 // Judges the asking call behind the command code, and makes the validation block.
 pub fn ask(settings: Settings, command: &[u8], start: Cursor) -> Asked
     ensures { λ r. ⌜ r ≡ askedOf (bkAsk settings (now (command .entry)) (start .at)) ⌝ }
@@ -109,30 +94,17 @@ pub fn ask(settings: Settings, command: &[u8], start: Cursor) -> Asked
     let BkRead::Got(bk) = fields else {
         return Asked::Bad(fields.fault());
     };
-    let data = bk.offsetting;
-    let account = digits_at(command, data.account, 12);
-    let from = data.validation;
-    let shape = data.shape;
-    let to = from + shape.width();
-    let row = shape.row(account, &command[from..to]);
+    let row = pairing::asked(command, bk.offsetting);
     Asked::of(row)
 }
 
 // The block, 81, 86: the offset's digits.
 fn finish(variable: bool, command: &[u8], bk: Bk, boxed: Boxed) -> Reading
     requires { ⌜ Placed (now command) bk ⌝ }
-    ensures { λ r. ⌜ r ≡ readingOf (bkFinish variable (now (command .entry)) bk (row 16 (boxed .block), row 16 (boxed .enciphered))) ⌝ }
+    ensures { λ r. ⌜ r ≡ readingOf (bkFinish variable (now (command .entry)) bk (boxRows boxed)) ⌝ }
 {
     let data = bk.offsetting;
-    let sealed = bk.sealed;
-    let format = sealed.format;
-    let rows = Rows {
-        block: boxed.block,
-        account: digits_at(command, data.account, 12),
-        enciphered: boxed.enciphered,
-    };
-    let table = digits_at(command, data.table, 16);
-    let comparison = offsets::with_natural(format, table, rows);
+    let comparison = pairing::pair(command, bk.sealed, data, boxed);
     let Comparison::Of(pair) = comparison else {
         return Reading::Bad(comparison.refusal());
     };

@@ -1,6 +1,6 @@
 -- Laws of reading and writing that the functions and their callers cite.
 -- Assumes nothing.
-use Prim.Native.Nat.{ℕ, zero, suc, _+_, _-_, _*_, _^_, _≤_, _<_}
+use Prim.Native.Nat.{ℕ, zero, suc, _+_, _-_, _*_, _/_, _^_, _≤_, _<_}
 use native.Mathlib.Omega.{arith}
 use native.Mathlib.Nat.{mod-eq-of-lt, mod-lt}
 use mathlib.Core.Path.{_≡_, refl, sym, ap, ap₂, _∙_, subst}
@@ -10,16 +10,16 @@ use lib.ListN.{length, getD, drop, length-map, length-append, length-drop}
 use lib.Seq.{slice, take-all, length-slice}
 use lib.Dec.{leb, eqb, lit<, lit≤}
 use lib.Bits.{xor-lt}
-use borrow.Author.Tests.{leb-true}
+use borrow.Author.Tests.{leb-true, le-leb, eqb-true}
 use Rattle.nibbles.specs.Nibbles.{row, word, nibs, packs, xors, within, every, leading}
-use Rattle.nibbles.proofs.Lists.{Below, below-weaken, and-left, map-at, below-drop}
-use Rattle.nibbles.proofs.Rows.{row-length, row-below, row-word, word-row, word-none, word-lt, word-append}
+use Rattle.nibbles.proofs.Lists.{Below, below-weaken, and-left, and-right, map-at, below-drop}
+use Rattle.nibbles.proofs.Rows.{row-length, row-below, row-part, row-word, word-row, word-none, word-lt, word-append}
 use Rattle.nibbles.proofs.Bytes.{nibs-length, nibs-below, nibs-packs, packs-length}
-use Rattle.nibbles.proofs.Runs.{leading-take, inside-high, run-whole, run-broken, below-every}
+use Rattle.nibbles.proofs.Runs.{leading-take, inside-high, every-leading, run-whole, run-broken, below-every}
 use Rattle.numbers.specs.Numbers.{Outcome, done, refused, andThen, unless}
 use Rattle.numbers.specs.declared.Refusal.{Refusal}
 use Rattle.numbers.specs.declared.Refusal.the-variants.{Block20, Length24, Room901}
-use Rattle.formats.specs.Formats.{leadOf, leadWidth, leads, filled, fillRead, fillWritten, fits, veiled, codeOf, formatOf}
+use Rattle.formats.specs.Formats.{leadOf, leadWidth, leads, filled, fillRead, fillWritten, leastFill, fits, veiled, codeOf, formatOf}
 use Rattle.formats.specs.declared.Format.{Format}
 use Rattle.formats.specs.declared.Format.the-variants.{F01, F03, F05, F34, F35, F47}
 use Rattle.formats.specs.declared.Lead.{Lead}
@@ -33,6 +33,13 @@ use Rattle.numbers.proofs.Laws.{passed, failed, then-done, value-of}
 use Rattle.pins.proofs.Laws.{Pinned, pinned, account-done, sized-done, handed-done, pin-under, pin-row}
 use Rattle.blocks.specs.Blocks.{veil, beforeF, counted, contents, readRow, readBlock, writeBlock, clearRow, writeRow}
 use Rattle.blocks.specs.Answers.{blockOf, bytesOf, Roomy, digitsIn, RoomyDigits, digitsOf, Proper}
+
+-- what passes a test passes it behind a place
+every-drop : (p : ℕ → Bool) (k : ℕ) (xs : List ℕ) → every p xs ≡ true → every p (drop k xs) ≡ true
+unfolding every
+every-drop p zero xs e = e
+every-drop p (suc k) [] e = e
+every-drop p (suc k) (x ∷ xs) e = every-drop p k xs (and-right (p x) (every p xs) e)
 
 pub lead-short : (l : Lead) → leadWidth l ≤ 2
 lead-short Bare = omega arith
@@ -94,6 +101,30 @@ module _ (f : Format) (w n from : ℕ) (here : from ≡ leadWidth (leadOf f)) (s
       )
 
 -- ---- the fill, place by place
+
+pub least-small : (k : Fill) → leastFill k ≤ 15
+least-small F = lit≤ tt
+least-small AToF = lit≤ tt
+least-small Any = lit≤ tt
+
+-- nothing but F from a place on is fill to the end, whatever the least is
+module _ (w from least : ℕ) (short : from ≤ 16) (small : least ≤ 15) (same : w / 16 ^ from ≡ 0xFFFFFFFFFFFFFFFF / 16 ^ from) where
+  rest-same : slice from 16 (row 16 w) ≡ slice from 16 (row 16 0xFFFFFFFFFFFFFFFF)
+  rest-same =
+      let s : from + (16 - from) ≡ 16 = omega arith in
+      ap (λ (k : ℕ). slice from k (row 16 w)) (sym s) ∙ row-part 16 from (16 - from) w (omega arith) ∙ ap (row (16 - from)) same
+      ∙ sym (row-part 16 from (16 - from) 0xFFFFFFFFFFFFFFFF (omega arith)) ∙ ap (λ (k : ℕ). slice from k (row 16 0xFFFFFFFFFFFFFFFF)) s
+
+  every-rest : every (within least 15) (slice from 16 (row 16 0xFFFFFFFFFFFFFFFF)) ≡ true
+  unfolding row every
+  every-rest = every-drop (within least 15) from (row 16 0xFFFFFFFFFFFFFFFF) (rw (le-leb least 15 small))
+
+  pub fill-whole : 16 ≡ from + length (leading (within least 15) (slice from 16 (row 16 w)))
+  fill-whole =
+      let all = ap (every (within least 15)) rest-same ∙ every-rest in
+      let long = eqb-true (length (leading (within least 15) (slice from 16 (row 16 w)))) (length (slice from 16 (row 16 w))) (sym (every-leading (within least 15) (slice from 16 (row 16 w))) ∙ all) in
+      let wide = length-slice from 16 (row 16 w) (rw (row-length 16 w) (lit≤ tt)) in
+      omega arith
 
 filled-each : (k : Fill) (ns : List ℕ) → Below 16 ns → Below 16 (map (filled k) ns)
 filled-each k [] b = tt

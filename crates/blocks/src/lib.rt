@@ -1,9 +1,10 @@
 // Reading and writing PIN blocks of the six formats: one pair of functions over the table of formats, and the two calls.
 ghost use mathlib.Core.Path.{_≡_};
 ghost use mathlib.Core.List.{_++_, map};
-ghost use Prim.Native.Nat.{_^_, _<_, _≤_};
+ghost use Prim.Native.Nat.{_+_, _^_, _<_, _≤_};
 ghost use lib.ListN.{length, drop};
-ghost use Rattle.nibbles.specs.Nibbles.{word, row};
+ghost use lib.Seq.{slice};
+ghost use Rattle.nibbles.specs.Nibbles.{word, row, within, leading};
 ghost use Rattle.numbers.specs.Promise.{Does, quietly};
 ghost use Rattle.formats.specs.Formats.{leads, filled, veiled};
 ghost use Rattle.pins.specs.Answers.{countOf, readingOf};
@@ -19,6 +20,9 @@ use pins::Count;
 use pins::Pin;
 use pins::Reading;
 use pins::Row;
+
+// A row of sixteen F.
+const ALL_F: u64 = 0xffff_ffff_ffff_ffff;
 
 // With the veil on, or taken off again.
 fn under_veil(f: Format, with: u64, block: u64) -> u64
@@ -57,6 +61,19 @@ fn counted_by(lead: Lead, clear: u64) -> Count
     }
 }
 
+// Where the fill from a place on ends: at 16 if it is right to the end. Nothing but F is right whatever is read, and is seen at one
+// stroke.
+fn fill_end(clear: u64, from: usize, least: u64) -> usize
+    requires { ⌜ (from ≤ 14) × (least ≤ 15) ⌝ }
+    ensures { λ r. ⌜ r ≡ from + length (leading (within least 15) (slice from 16 (row 16 clear))) ⌝ }
+{
+    let places = 4 * from;
+    if clear >> places == ALL_F >> places {
+        return 16;
+    }
+    nibbles::run_end(clear, from, 16, least, 15)
+}
+
 // The digits behind the lead, where they and the fill are right.
 fn digits(f: Format, clear: u64, n: usize) -> Reading
     requires { ⌜ n ≤ 12 ⌝ }
@@ -67,7 +84,7 @@ fn digits(f: Format, clear: u64, n: usize) -> Reading
     if nibbles::run_end(clear, from, to, 0, 9) < to {
         return Reading::Bad(Refusal::Block20);
     }
-    if nibbles::run_end(clear, to, 16, f.fill_read().least(), 15) < 16 {
+    if fill_end(clear, to, f.fill_read().least()) < 16 {
         return Reading::Bad(Refusal::Block20);
     }
     Reading::Got(Pin {

@@ -37,6 +37,7 @@ use Rattle.responses.specs.Responses.{responding}
 use Rattle.stages.proofs.Laws.{offsetting-held}
 use Rattle.stages.specs.Stages.{keys, formatField, sealed, validationField, offsetting, weak, accountIn, validationIn}
 use Rattle.endings.specs.Endings.{end}
+use Rattle.pairing.specs.Pairing.{askedAt}
 use Rattle.bk.specs.Bk.{bkFields, bkAsk, bkFinish, bkAnswer}
 use Rattle.bk.specs.declared.Bk as bk
 use Rattle.commands.specs.Commands.{askBy, answerBy, commanded, silently, asking, asked, answered}
@@ -159,7 +160,7 @@ fields-refuse settings s at q = by-fields (bkFields (settings .restricted) s at)
   where
     by-fields :
         (stage : Stage bk.Bk) → bkFields (settings .restricted) s at ≡ stage
-        → andThen (ruled stage) (λ p. andThen (unpointed (validationRow (accountIn s (p .offsetting)) (validationIn s (p .offsetting)))) (λ ns. done (packs ns))) ≡ refused q → ruled stage ≡ refused q
+        → andThen (ruled stage) (λ p. unpointed (askedAt s (p .offsetting))) ≡ refused q → ruled stage ≡ refused q
     by-fields (read p past) f e =
         let h = measured (settings .restricted) s at p past f in
         let row = row-of-valid (accountIn s (p .offsetting)) (validationIn s (p .offsetting)) (offsetting-held 6 s (h .0) (p .offsetting) (h .1) (h .2) .valid) in

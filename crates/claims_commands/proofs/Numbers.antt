@@ -78,9 +78,9 @@ ask-gives : (code : Code) (settings : Settings) (s : List ℕ) (at : ℕ) → On
 unfolding askBy bkAsk every
 ask-gives Bk settings s at =
     then-heard (In askRefusals) (ruled (bkFields (settings .restricted) s at)) _ (wider fieldNumbers askRefusals _ refl (fields-give (settings .restricted) s at))
-    (λ p. then-heard (In askRefusals) (unpointed (validationRow (accountIn s (p .offsetting)) (validationIn s (p .offsetting)))) _
-    (pointed-only (In askRefusals) 0 0 _ (row-gives (accountIn s (p .offsetting)) (validationIn s (p .offsetting))))
-    (λ ns. done-only (In askRefusals) (packs ns)))
+    (λ p. pointed-only (In askRefusals) 0 0 _
+    (then-only (In askRefusals) (validationRow (accountIn s (p .offsetting)) (validationIn s (p .offsetting))) _ (row-gives (accountIn s (p .offsetting)) (validationIn s (p .offsetting)))
+    (λ ns. done-only (In askRefusals) (packs ns))))
 ask-gives Other settings s at = refused-only (In askRefusals) Code68 refl
 
 -- the call

@@ -30,7 +30,6 @@ validation-once = record {
 
 pub ibm3624-once : Ibm3624Settled
 ibm3624-once = record {
-  decimals = λ κs a r r′ ends ends′. settled;
   natural = λ κs a r r′ ends ends′. settled;
   covering = λ κs a r r′ ends ends′. settled;
   offset = λ κs a r r′ ends ends′. settled;

@@ -1,6 +1,6 @@
 -- One answer to every promise of the crates of commands: each function cites the law of its shape.
 -- Assumes nothing.
-use Rattle.claims_functions.specs.Commands.{KeyBoxSettled, ResponsesSettled, FrameSettled, FieldsSettled, LmkSettled, UsesSettled, KeyLengthsSettled, KeyBlocksSettled, KeysSettled, WeakSettled, StagesSettled, EndingsSettled, BkSettled, CommandsSettled}
+use Rattle.claims_functions.specs.Commands.{KeyBoxSettled, ResponsesSettled, FrameSettled, FieldsSettled, LmkSettled, UsesSettled, KeyLengthsSettled, KeyBlocksSettled, KeysSettled, WeakSettled, StagesSettled, EndingsSettled, PairingSettled, BkSettled, CommandsSettled}
 use Rattle.claims_functions.proofs.Once.{settled, left, answered}
 
 pub key-box-once : KeyBoxSettled
@@ -84,6 +84,12 @@ pub endings-once : EndingsSettled
 endings-once = record {
   End·fault = λ κs a r r′ ends ends′. settled;
   read-end = λ κs a r r′ ends ends′. settled;
+}
+
+pub pairing-once : PairingSettled
+pairing-once = record {
+  asked = λ κs a r r′ ends ends′. settled;
+  pair = λ κs a r r′ ends ends′. settled;
 }
 
 pub bk-once : BkSettled

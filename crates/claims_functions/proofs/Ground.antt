@@ -5,8 +5,6 @@ use Rattle.claims_functions.proofs.Once.{settled, left, replied, verdic
 
 pub nibbles-once : NibblesSettled
 nibbles-once = record {
-  high = λ κs a r r′ ends ends′. settled;
-  low = λ κs a r r′ ends ends′. settled;
   nibble = λ κs a r r′ ends ends′. settled;
   part = λ κs a r r′ ends ends′. settled;
   join = λ κs a r r′ ends ends′. settled;
@@ -23,6 +21,7 @@ alphabet-once = record {
   ahead = λ κs a r r′ ends ends′. settled;
   has-at = λ κs a r r′ ends ends′. settled;
   value = λ κs a r r′ ends ends′. settled;
+  digit = λ κs a r r′ ends ends′. settled;
 }
 
 pub numbers-once : NumbersSettled
@@ -64,6 +63,7 @@ pins-once = record {
   Row·refusal = λ κs a r r′ ends ends′. settled;
   sized-row = λ κs a r r′ ends ends′. settled;
   values = λ κs a r r′ ends ends′. settled;
+  digits = λ κs a r r′ ends ends′. settled;
   class-end = λ κs a r r′ ends ends′. settled;
   account = λ κs a r r′ ends ends′. settled;
   field = λ κs a r r′ ends ends′. settled;

@@ -34,7 +34,6 @@ pub record ValidationSettled : Type 0 where
 
 -- every public function of ibm3624
 pub record Ibm3624Settled : Type 0 where
-  pub decimals : Settled Ibm3624.decimals.ended Ibm3624.decimals.Reads.Learnt
   pub natural : Settled Ibm3624.natural.ended Ibm3624.natural.Reads.Learnt
   pub covering : Settled Ibm3624.covering.ended Ibm3624.covering.Reads.Learnt
   pub offset : Settled Ibm3624.offset.ended Ibm3624.offset.Reads.Learnt

@@ -1,5 +1,5 @@
 -- One answer to every promise of the crates of commands: key box, responses, frame, fields, LMK ids, uses, key blocks and their lengths, keys,
--- weak lists, stages, endings, BK and the two calls.
+-- weak lists, stages, endings, PIN with natural PIN, BK and the two calls.
 -- Each line is over the contract of the function of its name, as the checker reads it for a caller. No line needs what a function
 -- requires: outside it a contract promises nothing.
 use Rattle.keybox.proofs as KeyBox
@@ -14,6 +14,7 @@ use Rattle.keys.proofs as Keys
 use Rattle.weak.proofs as Weak
 use Rattle.stages.proofs as Stages
 use Rattle.endings.proofs as Endings
+use Rattle.pairing.proofs as Pairing
 use Rattle.bk.proofs as Bk
 use Rattle.commands.proofs as Commands
 use Rattle.claims_functions.specs.Once.{Settled}
@@ -94,6 +95,11 @@ pub record StagesSettled : Type 0 where
 pub record EndingsSettled : Type 0 where
   pub End·fault : Settled Endings.End.fault.ended Endings.End.fault.Reads.Learnt
   pub read-end : Settled Endings.read_end.ended Endings.read_end.Reads.Learnt
+
+-- every public function of pairing
+pub record PairingSettled : Type 0 where
+  pub asked : Settled Pairing.asked.ended Pairing.asked.Reads.Learnt
+  pub pair : Settled Pairing.pair.ended Pairing.pair.Reads.Learnt
 
 -- every public function of bk
 pub record BkSettled : Type 0 where

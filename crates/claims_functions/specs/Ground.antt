@@ -12,8 +12,6 @@ use Rattle.claims_functions.specs.Once.{Settled}
 
 -- every public function of nibbles
 pub record NibblesSettled : Type 0 where
-  pub high : Settled Nibbles.high.ended Nibbles.high.Reads.Learnt
-  pub low : Settled Nibbles.low.ended Nibbles.low.Reads.Learnt
   pub nibble : Settled Nibbles.nibble.ended Nibbles.nibble.Reads.Learnt
   pub part : Settled Nibbles.part.ended Nibbles.part.Reads.Learnt
   pub join : Settled Nibbles.join.ended Nibbles.join.Reads.Learnt
@@ -29,6 +27,7 @@ pub record AlphabetSettled : Type 0 where
   pub ahead : Settled Alphabet.ahead.ended Alphabet.ahead.Reads.Learnt
   pub has-at : Settled Alphabet.has_at.ended Alphabet.has_at.Reads.Learnt
   pub value : Settled Alphabet.value.ended Alphabet.value.Reads.Learnt
+  pub digit : Settled Alphabet.digit.ended Alphabet.digit.Reads.Learnt
 
 -- every public function of numbers
 pub record NumbersSettled : Type 0 where
@@ -66,6 +65,7 @@ pub record PinsSettled : Type 0 where
   pub Row·refusal : Settled Pins.Row.refusal.ended Pins.Row.refusal.Reads.Learnt
   pub sized-row : Settled Pins.sized_row.ended Pins.sized_row.Reads.Learnt
   pub values : Settled Pins.values.ended Pins.values.Reads.Learnt
+  pub digits : Settled Pins.digits.ended Pins.digits.Reads.Learnt
   pub class-end : Settled Pins.class_end.ended Pins.class_end.Reads.Learnt
   pub account : Settled Pins.account.ended Pins.account.Reads.Learnt
   pub field : Settled Pins.field.ended Pins.field.Reads.Learnt

@@ -5,57 +5,56 @@ use native.Mathlib.Omega.{arith}
 use native.Mathlib.Nat.{not-suc-le-zero, le-of-suc-le-suc, mod-lt}
 use mathlib.Core.Path.{_≡_, refl, sym, ap, ap₂, _∙_}
 use mathlib.Core.List.{List, [], _∷_, _++_, map}
+use mathlib.Core.Bool.{Bool}
 use lib.ListN.{length, getD, take, drop, replicate, length-map, length-append, length-drop, length-replicate, getD-replicate}
-use lib.Seq.{length-take-le, getD-take, getD-drop, take-at, drop-at, getD-append-add, drop-append-add, drop-drop}
+use lib.Seq.{length-take-le, take-all, getD-take, getD-drop, take-at, drop-at, getD-append-add, drop-append-add, drop-drop}
 use lib.Dec.{lit<, leb, eqb}
 use lib.IntN.{ℤ, pos, negsuc}
 use borrow.Author.Tests.{eqb-true, leb-true}
 use Rattle.nibbles.specs.Nibbles.{row, within, word}
-use Rattle.nibbles.proofs.Lists.{Below, map-at, map-below, below-at}
-use Rattle.nibbles.proofs.Rows.{row-length, row-at-lt, row-at-less, row-word}
+use Rattle.nibbles.proofs.Lists.{Below, map-at, map-below, below-at, below-take}
+use Rattle.nibbles.proofs.Rows.{row-length, row-at-lt, row-at-less}
 use Rattle.nibbles.proofs.Runs.{every-below, inside-low, inside-high}
 use Rattle.alphabet.specs.Alphabet.{characters, allOf, valueOf}
 use Rattle.ibm3624.specs.Ibm3624.{decimal, naturalOf, difference, differences, moduloTen, covered, offsetOf, offsetText, tableSized, tableOf, naturalPin}
 use Rattle.alphabet.specs.declared.Class.the-variants.{Digit}
 use Rattle.alphabet.proofs.Laws.{value-below}
-use Rattle.numbers.specs.Numbers.{done, refused, unless}
-use Rattle.numbers.specs.declared.Refusal.{Refusal}
+use Rattle.numbers.specs.Numbers.{done, unless}
 use Rattle.numbers.specs.declared.Refusal.the-variants.{Field15, Length24, Table25, Room901}
-use Rattle.numbers.proofs.Laws.{passed, failed, then-done, value-of}
+use Rattle.numbers.proofs.Laws.{passed, then-done, value-of}
 use Rattle.pins.specs.Pins.{pinLength, lastOf, sized}
-use Rattle.pins.specs.Answers.{rowOf}
-use Rattle.pins.specs.declared.Row.{Row}
-use Rattle.pins.specs.declared.Row.the-variants.{Held, Refused}
-use Rattle.pins.proofs.Laws.{row-held, row-refused, block-row}
+use Rattle.pins.proofs.Laws.{block-row}
 use Rattle.blocks.proofs.Laws.{Digital}
 use Rattle.ibm3624.specs.Answers.{Matched}
 
-below-take : (m k : ℕ) (xs : List ℕ) → Below m xs → Below m (take k xs)
-below-take m zero xs b = tt
-below-take m (suc k) [] b = tt
-below-take m (suc k) (x ∷ xs) b = (b .0, below-take m k xs (b .1))
-
 -- ---- the natural PIN
 
-module _ (n table enciphered : ℕ) (small : n ≤ 16) where
-  abbrev pub naturalRow : List ℕ
-  naturalRow = naturalOf n (row 16 table) (row 16 enciphered)
+-- of any rows
+pub natural-long : (n : ℕ) (ts es : List ℕ) → n ≤ length es → length (naturalOf n ts es) ≡ n
+natural-long n ts es h = length-take-le n (map (decimal ts) es) (rw (length-map es (decimal ts)) h)
 
-  all : length (map (decimal (row 16 table)) (row 16 enciphered)) ≡ 16
-  all = length-map (row 16 enciphered) (decimal (row 16 table)) ∙ row-length 16 enciphered
+natural-under : (m n : ℕ) (ts es : List ℕ) → 0 < m → Below m ts → Below m (naturalOf n ts es)
+natural-under m n ts es p b = below-take m n (map (decimal ts) es) (map-below m (decimal ts) (λ x. below-at m ts x p b) es)
+
+pub natural-digits : (n : ℕ) (ts es : List ℕ) → Below 10 ts → Below 10 (naturalOf n ts es)
+natural-digits n ts es = natural-under 10 n ts es (lit< tt)
+
+-- through the characters of a table, of a block of sixteen nibbles in a word
+module _ (n : ℕ) (table : List ℕ) (enciphered : ℕ) (small : n ≤ 16) where
+  abbrev pub naturalRow : List ℕ
+  naturalRow = naturalOf n (map valueOf table) (row 16 enciphered)
 
   pub natural-length : length naturalRow ≡ n
-  natural-length = length-take-le n (map (decimal (row 16 table)) (row 16 enciphered)) (rw all small)
+  natural-length = natural-long n (map valueOf table) (row 16 enciphered) (rw (row-length 16 enciphered) small)
 
   pub natural-below : Below 16 naturalRow
-  natural-below =
-      below-take 16 n (map (decimal (row 16 table)) (row 16 enciphered))
-      (map-below 16 (decimal (row 16 table)) (λ x. row-at-lt table x) (row 16 enciphered))
+  natural-below = natural-under 16 n (map valueOf table) (row 16 enciphered) (lit< tt) (map-below 16 valueOf value-below table)
 
-  pub natural-at : (i : ℕ) → i < n → getD naturalRow i 0 ≡ getD (row 16 table) (getD (row 16 enciphered) i 0) 0
-  natural-at i h =
-      getD-take n (map (decimal (row 16 table)) (row 16 enciphered)) i 0 h
-      ∙ map-at (decimal (row 16 table)) (row 16 enciphered) i 0 0 (rw (row-length 16 enciphered) (omega arith))
+  pub natural-at : length table ≡ 16 → (i : ℕ) → i < n → getD naturalRow i 0 ≡ valueOf (getD table (getD (row 16 enciphered) i 0) 0)
+  natural-at whole i h =
+      getD-take n (map (decimal (map valueOf table)) (row 16 enciphered)) i 0 h
+      ∙ map-at (decimal (map valueOf table)) (row 16 enciphered) i 0 0 (rw (row-length 16 enciphered) (omega arith))
+      ∙ map-at valueOf table (getD (row 16 enciphered) i 0) 0 0 (rw whole (row-at-lt enciphered i))
 
 -- ---- differences
 
@@ -181,22 +180,9 @@ module _ (m : ℕ) (head d out : List ℕ) (e : out ≡ head ++ drop m d) (l : l
 
 -- ---- the table
 
-pub table-done : (cs ts : List ℕ) → tableOf cs ≡ done ts → map valueOf cs ≡ ts
-table-done cs ts e = passed Table25 (allOf Digit cs) (map valueOf cs) ts e .1
-
-module _ (cs : List ℕ) (r : Row) (e : r ≡ rowOf (tableOf cs)) where
-  pub table-held : (v : ℕ) → r ≡ Held v → (ts : List ℕ) × (tableOf cs ≡ done ts) × (v ≡ word ts)
-  table-held v h = row-held (tableOf cs) v (sym h ∙ e)
-
-  pub table-not : (q : Refusal) → r ≡ Refused q → tableOf cs ≡ refused Table25
-  table-not q h = failed Table25 q (allOf Digit cs) (map valueOf cs) (row-refused (tableOf cs) q (sym h ∙ e)) .1
-
--- the row of a table of sixteen digits
-pub table-row : (cs ts : List ℕ) (w : ℕ) → length cs ≡ 16 → tableOf cs ≡ done ts → w ≡ word ts → row 16 w ≡ ts
-table-row cs ts w l e h =
-    let s : map valueOf cs ≡ ts = table-done cs ts e in
-    let n : length ts ≡ 16 = ap length (sym s) ∙ length-map cs valueOf ∙ l in
-    ap (row 16) h ∙ ap (λ (k : ℕ). row k (word ts)) (sym n) ∙ row-word ts (rw (← s) (map-below 16 valueOf value-below cs))
+-- sixteen characters were judged, and they are all of the table
+pub table-judged : (cs : List ℕ) → length cs ≡ 16 → (good : Bool) → good ≡ allOf Digit (take 16 cs) → allOf Digit cs ≡ good
+table-judged cs whole good e = ap (allOf Digit) (sym (take-all 16 cs (omega arith))) ∙ sym e
 
 -- what the call that makes a natural PIN has judged
 pub natural-done : (n : ℕ) (table enciphered : List ℕ) (room : ℕ) (ds : List ℕ) → naturalPin n table enciphered room ≡ done ds
@@ -223,18 +209,10 @@ natural-done n table enciphered room ds e =
 pub natural-digital : (n : ℕ) (table enciphered : List ℕ) (room : ℕ) → Below 256 enciphered → Digital (naturalPin n table enciphered room) room
 natural-digital n table enciphered room b ds e =
     let t = natural-done n table enciphered room ds e in
-    let tr = table-row table (t .0) (word (t .0)) (t .4) (t .2) refl in
+    let values = passed Table25 (allOf Digit table) (map valueOf table) (t .0) (t .2) .1 in
     let er = block-row enciphered (t .1) (word (t .1)) (t .3) b refl in
-    let whole : naturalOf n (row 16 (word (t .0))) (row 16 (word (t .1))) ≡ ds = ap₂ (naturalOf n) tr er ∙ t .8 in
+    let whole : naturalOf n (map valueOf table) (row 16 (word (t .1))) ≡ ds = ap₂ (naturalOf n) values er ∙ t .8 in
     let small = t .6 in
     let room-for = t .7 in
-    let long = ap length (sym whole) ∙ natural-length n (word (t .0)) (word (t .1)) (omega arith) in
-    (omega arith, omega arith, rw (← whole) (natural-below n (word (t .0)) (word (t .1)) (omega arith)))
-
--- ---- the natural PIN of any rows
-
-pub natural-long : (n : ℕ) (ts es : List ℕ) → n ≤ length es → length (naturalOf n ts es) ≡ n
-natural-long n ts es h = length-take-le n (map (decimal ts) es) (rw (length-map es (decimal ts)) h)
-
-pub natural-digits : (n : ℕ) (ts es : List ℕ) → Below 10 ts → Below 10 (naturalOf n ts es)
-natural-digits n ts es b = below-take 10 n (map (decimal ts) es) (map-below 10 (decimal ts) (λ x. below-at 10 ts x (lit< tt) b) es)
+    let long = ap length (sym whole) ∙ natural-length n table (word (t .1)) (omega arith) in
+    (omega arith, omega arith, rw (← whole) (natural-below n table (word (t .1)) (omega arith)))

@@ -1,13 +1,14 @@
 // The IBM 3624 method over values: natural PIN, signed differences, offset.
 ghost use mathlib.Core.Path.{_≡_};
-ghost use mathlib.Core.List.{_++_};
+ghost use mathlib.Core.List.{_++_, map};
 ghost use Prim.Native.Nat.{_≤_};
 ghost use lib.ListN.{length, drop};
 ghost use Rattle.nibbles.specs.Nibbles.{word, row, within, every};
 ghost use Rattle.numbers.specs.Promise.{Does, quietly};
-ghost use Rattle.pins.specs.Answers.{countOf, pinOf, rowOf, readingOf};
-ghost use Rattle.ibm3624.specs.Ibm3624.{tableOf, naturalOf, naturalPin, covers, difference, moduloTen, covered, offsetOf, offsetText, offsetPresented};
-ghost use Rattle.ibm3624.specs.Answers.{Matched};
+ghost use Rattle.alphabet.specs.Alphabet.{valueOf};
+ghost use Rattle.pins.specs.Answers.{countOf, pinOf, readingOf};
+ghost use Rattle.ibm3624.specs.Ibm3624.{naturalOf, naturalPin, covers, difference, moduloTen, covered, offsetOf, offsetText, offsetPresented};
+ghost use Rattle.ibm3624.specs.Answers.{Decimal, Matched};
 use alphabet::Class;
 use numbers::Refusal;
 use numbers::Reply;
@@ -33,28 +34,17 @@ fn reduced(pin: u64, natural: u64) -> u64
     if d < 0 { (d + 10) as u64 } else { d as u64 }
 }
 
-// The table's digits, where it holds nothing else.
-pub fn decimals(table: &[u8]) -> Row
-    requires { ⌜ length (now table) ≤ 16 ⌝ }
-    ensures { λ r. ⌜ r ≡ rowOf (tableOf (now (table .entry))) ⌝ }
-{
-    if !alphabet::all_of(Class::Digit, table, 0, table.len()) {
-        return Row::Refused(Refusal::Table25);
-    }
-    Row::Held(pins::values(table))
-}
-
-// The natural PIN of n digits: the first of the enciphered block, through the table.
-pub fn natural(n: usize, table: u64, enciphered: u64) -> Pin
-    requires { ⌜ n ≤ 16 ⌝ }
-    ensures { λ r. ⌜ r ≡ pinOf (naturalOf n (row 16 table) (row 16 enciphered)) ⌝ }
+// The natural PIN of n digits: the first of the enciphered block, through the table. At most n of its sixteen characters are looked up.
+pub fn natural(n: usize, table: &[u8], enciphered: u64) -> Pin
+    requires { ⌜ (n ≤ 16) × Decimal (now table) ⌝ }
+    ensures { λ r. ⌜ r ≡ pinOf (naturalOf n (map valueOf (now (table .entry))) (row 16 enciphered)) ⌝ }
 {
     let mut w: u64 = 0;
     let mut i = n;
     while 0 < i {
         i -= 1;
         let nibble = nibbles::nibble(enciphered, i) as usize;
-        w = w * 16 + nibbles::nibble(table, nibble);
+        w = w * 16 + alphabet::digit(table[nibble]) as u64;
     }
     Pin {
         length: n,
@@ -172,15 +162,14 @@ fn judged_natural(length: u32, table: &[u8], enciphered: &[u8], room: usize) -> 
     let Row::Held(cipher) = sealed else {
         return Reading::Bad(Refusal::Field15);
     };
-    let decimal = decimals(table);
-    let Row::Held(digits) = decimal else {
+    if !alphabet::all_of(Class::Digit, table, 0, 16) {
         return Reading::Bad(Refusal::Table25);
-    };
+    }
     let measured = pins::pin_length(length as usize);
     let Count::Of(n) = measured else {
         return Reading::Bad(Refusal::Length24);
     };
-    Reading::Got(natural(n, digits, cipher))
+    Reading::Got(natural(n, table, cipher))
 }
 
 // Makes a natural PIN and writes its digits as values.

@@ -1,18 +1,21 @@
 -- Laws of bytes and their nibbles, each over every length.
 -- Assumes nothing.
-use Prim.Native.Nat.{ℕ, zero, suc, _+_, _-_, _*_, _/_, _%_, _^_, _≤_, _<_}
-use native.Mathlib.Nat.{mod-lt, not-suc-le-zero, div-add-mod'}
+use Prim.Native.Nat.{ℕ, zero, suc, _+_, _*_, _/_, _%_, _^_, _≤_, _<_}
+use native.Mathlib.Nat.{mod-lt, not-suc-le-zero, le-of-suc-le-suc, div-add-mod', mul-assoc, pow-suc, pow-le-pow-right, lt-of-lt-of-le}
 use native.Mathlib.Omega.{arith}
+use native.Mathlib.Numerals.{add-one}
 use mathlib.Core.Path.{_≡_, refl, sym, ap, ap₂, _∙_}
 use mathlib.Core.List.{List, [], _∷_}
-use lib.ListN.{length, getD, drop, length-drop}
-use lib.Seq.{drop-cons}
+use lib.ListN.{length, getD, take}
+use lib.Seq.{length-take-le}
 use lib.Dec.{lit<}
-use lib.Arith.{digits-div, digits-mod}
+use lib.Arith.{digits-div, digits-mod, digits-lt}
+use lib.Bits.{bitAnd, and-block, and-mask}
+use lib.Pow.{pow-add, shl-exact}
 use mir.Val.{Fits}
 use mir.Syntax.{w8}
 use Rattle.nibbles.specs.Nibbles.{nibs, packs, word}
-use Rattle.nibbles.proofs.Lists.{Below, below-each, below-drop}
+use Rattle.nibbles.proofs.Lists.{Below, below-each, below-at, below-take}
 use Rattle.nibbles.proofs.Rows.{word-fits}
 
 -- what owning a slice of bytes tells of it
@@ -32,21 +35,64 @@ nibs-below (x ∷ bs) b = (let h = b .0 in omega arith, (mod-lt x (lit< tt), nib
 pub nibs-fits : (bs : List ℕ) → Below 256 bs → length bs ≤ 8 → word (nibs bs) < 2 ^ 64
 nibs-fits bs b h = word-fits (nibs bs) (nibs-below bs b) (rw (nibs-length bs) (omega arith))
 
--- one byte more in front
-pub nibs-step : (bs : List ℕ) (i : ℕ) → i < length bs → word (nibs (drop i bs)) ≡ word (nibs (drop (suc i) bs)) * 256 + (getD bs i 0 % 16 * 16 + getD bs i 0 / 16)
-unfolding nibs word
-nibs-step bs i h = rw (drop-cons bs i 0 h) (omega arith)
+-- ---- bytes gathered in a word, the first lowest
 
-module _ (bs : List ℕ) (i w : ℕ) (some : 0 < i) (here : i ≤ length bs) (e : w ≡ word (nibs (drop i bs))) where
-  -- a row of the bytes from i on, with the byte before them in front
-  pub nibs-next : w * 256 + (getD bs (i - 1) 0 % 16 * 16 + getD bs (i - 1) 0 / 16) ≡ word (nibs (drop (i - 1) bs))
-  nibs-next =
-      let s : suc (i - 1) ≡ i = omega arith in
-      sym (nibs-step bs (i - 1) (omega arith)
-      ∙ ap (λ (x : ℕ). x * 256 + (getD bs (i - 1) 0 % 16 * 16 + getD bs (i - 1) 0 / 16)) (ap (λ (k : ℕ). word (nibs (drop k bs))) s ∙ sym e))
+unfoldable pub gathered : List ℕ → ℕ
+gathered [] = 0
+gathered (b ∷ bs) = gathered bs * 256 + b
 
-  pub nibs-room : Below 256 bs → length bs ≤ 8 → w * 256 + (getD bs (i - 1) 0 % 16 * 16 + getD bs (i - 1) 0 / 16) < 2 ^ 64
-  nibs-room b h = rw nibs-next (nibs-fits (drop (i - 1) bs) (below-drop 256 (i - 1) bs b) (rw (length-drop (i - 1) bs) (omega arith)))
+-- one byte more behind
+gathered-suc : (bs : List ℕ) (i : ℕ) → i < length bs → gathered (take (suc i) bs) ≡ gathered (take i bs) + getD bs i 0 * 2 ^ (8 * i)
+unfolding gathered
+gathered-suc [] i h = absurd (not-suc-le-zero h)
+gathered-suc (b ∷ bs) zero h = omega arith
+gathered-suc (b ∷ bs) (suc i) h =
+    let ih = gathered-suc bs i (le-of-suc-le-suc h) in
+    let far : getD bs i 0 * 2 ^ (8 * suc i) ≡ getD bs i 0 * 2 ^ (8 * i) * 256 =
+    ap (λ (k : ℕ). getD bs i 0 * 2 ^ k) (next i) ∙ ap (λ (x : ℕ). getD bs i 0 * x) (pow-add 2 (8 * i) 8) ∙ sym (mul-assoc (getD bs i 0) (2 ^ (8 * i)) 256) in
+    omega arith
+  where
+    next : (k : ℕ) → 8 * suc k ≡ 8 * k + 8
+    next k = omega arith
+
+gathered-under : (bs : List ℕ) → Below 256 bs → gathered bs < 256 ^ length bs
+unfolding gathered
+gathered-under [] b = lit< tt
+gathered-under (x ∷ bs) b = rw (pow-suc 256 (length bs)) (digits-lt (gathered-under bs (b .1)) (b .0))
+
+module _ (bs : List ℕ) (i w : ℕ) (here : i < length bs) (few : length bs ≤ 8) (b : Below 256 bs) (e : w ≡ gathered (take i bs)) where
+  -- the bytes before i, with the one at i behind them
+  pub gathered-next : w + getD bs i 0 * 2 ^ (8 * i) % 2 ^ 64 ≡ gathered (take (i + 1) bs)
+  gathered-next =
+      ap₂ (λ (x y : ℕ). x + y) e (shl-exact 8 (8 * i) 64 (below-at 256 bs i (lit< tt) b) (omega arith)) ∙ sym (gathered-suc bs i here)
+      ∙ ap (λ (k : ℕ). gathered (take k bs)) (sym (add-one i))
+
+  pub gathered-room : w + getD bs i 0 * 2 ^ (8 * i) % 2 ^ 64 < 2 ^ 64
+  gathered-room =
+      let long = length-take-le (i + 1) bs (omega arith) in
+      let short : length (take (i + 1) bs) ≤ 8 = omega arith in
+      rw gathered-next (lt-of-lt-of-le (gathered-under (take (i + 1) bs) (below-take 256 (i + 1) bs b)) (pow-le-pow-right (lit< tt) short))
+
+-- the low nibble of each of k bytes
+unfoldable pub lows : ℕ → ℕ
+lows zero = 0
+lows (suc k) = lows k * 256 + 15
+
+-- the two nibbles of each byte change places
+pub exchanged : (k : ℕ) (bs : List ℕ) → Below 256 bs → length bs ≤ k → bitAnd (gathered bs) (lows k) * 16 + bitAnd (gathered bs / 16) (lows k) ≡ word (nibs bs)
+unfolding word nibs gathered lows
+exchanged k [] b h = refl
+exchanged zero (x ∷ bs) b h = absurd (omega arith)
+exchanged (suc k) (x ∷ bs) b h =
+    let ih = exchanged k bs (b .1) (le-of-suc-le-suc h) in
+    let small = b .0 in
+    let w = gathered bs in
+    let low = and-block 8 w (lows k) x 15 small (lit< tt) ∙ ap (λ (y : ℕ). bitAnd w (lows k) * 256 + y) (and-mask x 4) in
+    let split : (w * 256 + x) / 16 ≡ w / 16 * 256 + (w % 16 * 16 + x / 16) = omega arith in
+    let high =
+    ap (λ (y : ℕ). bitAnd y (lows k * 256 + 15)) split ∙ and-block 8 (w / 16) (lows k) (w % 16 * 16 + x / 16) 15 (omega arith) (lit< tt)
+    ∙ ap (λ (y : ℕ). bitAnd (w / 16) (lows k) * 256 + y) (and-mask (w % 16 * 16 + x / 16) 4) in
+    omega (arith, ih, low, high, small)
 
 -- ---- nibbles packed into bytes
 

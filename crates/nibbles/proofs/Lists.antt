@@ -32,6 +32,11 @@ below-drop m zero ns b = b
 below-drop m (suc k) [] b = tt
 below-drop m (suc k) (n ∷ ns) b = below-drop m k ns (b .1)
 
+pub below-take : (m k : ℕ) (xs : List ℕ) → Below m xs → Below m (take k xs)
+below-take m zero xs b = tt
+below-take m (suc k) [] b = tt
+below-take m (suc k) (x ∷ xs) b = (b .0, below-take m k xs (b .1))
+
 pub below-weaken : (m n : ℕ) (xs : List ℕ) → m ≤ n → Below m xs → Below n xs
 below-weaken m n [] h b = tt
 below-weaken m n (x ∷ xs) h b = (let s = b .0 in omega arith, below-weaken m n xs h (b .1))

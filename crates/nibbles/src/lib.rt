@@ -1,24 +1,13 @@
 // Nibbles by shift and mask, and rows of nibbles held in words: the first nibble is the lowest.
 ghost use mathlib.Core.Path.{_≡_};
 ghost use mathlib.Core.List.{_++_};
-ghost use Prim.Native.Nat.{_+_, _-_, _*_, _/_, _%_, _^_, _<_, _≤_};
+ghost use Prim.Native.Nat.{_+_, _-_, _*_, _^_, _<_, _≤_};
 ghost use lib.ListN.{length, getD, drop};
 ghost use lib.Seq.{slice};
 ghost use Rattle.nibbles.specs.Nibbles.{nibs, packs, word, row, within, leading};
 
-// The nibble that is written first.
-pub fn high(b: u8) -> u8
-    ensures { λ r. ⌜ r ≡ b / 16 ⌝ }
-{
-    b >> 4
-}
-
-// The nibble that is written second.
-pub fn low(b: u8) -> u8
-    ensures { λ r. ⌜ r ≡ b % 16 ⌝ }
-{
-    b & 15
-}
+// The low nibble of each byte of a word.
+const LOW: u64 = 0x0f0f_0f0f_0f0f_0f0f;
 
 // The nibble at place i of a row.
 pub fn nibble(w: u64, i: usize) -> u64
@@ -44,13 +33,6 @@ pub fn join(head: u64, n: usize, tail: u64) -> u64
     (tail << (4 * n)) + head
 }
 
-// A byte's two nibbles as a row.
-fn pair(b: u8) -> u64
-    ensures { λ r. ⌜ r ≡ b % 16 * 16 + b / 16 ⌝ }
-{
-    (low(b) as u64) * 16 + high(b) as u64
-}
-
 // The byte that two neighbouring nibbles make.
 fn byte(w: u64, i: usize) -> u8
     requires { ⌜ i < 8 ⌝ }
@@ -59,18 +41,19 @@ fn byte(w: u64, i: usize) -> u8
     (nibble(w, 2 * i) * 16 + nibble(w, 2 * i + 1)) as u8
 }
 
-// The row of at most eight bytes.
+// The row of at most eight bytes. They are gathered as they stand, which the compiler does at one stroke; then the two nibbles of each
+// change places, since the high one is written first.
 pub fn row_of(bytes: &[u8]) -> u64
     requires { ⌜ length (now bytes) ≤ 8 ⌝ }
     ensures { λ r. ⌜ r ≡ word (nibs (now (bytes .entry))) ⌝ }
 {
     let mut w: u64 = 0;
-    let mut i = bytes.len();
-    while 0 < i {
-        i -= 1;
-        w = w * 256 + pair(bytes[i]);
+    let mut i = 0;
+    while i < bytes.len() {
+        w = w + ((bytes[i] as u64) << (8 * i));
+        i += 1;
     }
-    w
+    (w & LOW) * 16 + ((w >> 4) & LOW)
 }
 
 // Packs a row of sixteen nibbles into the first eight bytes of `out`.

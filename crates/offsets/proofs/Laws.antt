@@ -129,13 +129,13 @@ comparison-fit o alike c e =
     let a = alike (p .0) (p .1) in
     (p .0, p .1, subst Fit (sym (p .2)) (pair-fit (p .0) a), ap pairIn (p .2) ∙ pair-back (p .0) a)
 
--- such a value, of rows in words
+-- such a value, of rows in words and a table of digits
 pub with-natural-compared :
-    (f : Format) (table : ℕ) (rows : Rows) → every digit (row 16 table) ≡ true → (c : Compared) → comparison.Of c ≡ comparisonOf (pinWithNatural f (row 16 table) (rowsIn rows))
-    → (p : List ℕ × List ℕ) × (pinWithNatural f (row 16 table) (rowsIn rows) ≡ done p) × Fit c × (pairIn c ≡ p)
-with-natural-compared f table rows t =
-    comparison-fit (pinWithNatural f (row 16 table) (rowsIn rows))
-    (natural-alike f (row 16 table) (rowsIn rows) (row-length 16 (rows .block)) (row-length 12 (rows .account)) (row-length 16 (rows .enciphered)) (every-below 9 (row 16 table) t))
+    (f : Format) (ts : List ℕ) (rows : Rows) → every digit ts ≡ true → (c : Compared) → comparison.Of c ≡ comparisonOf (pinWithNatural f ts (rowsIn rows))
+    → (p : List ℕ × List ℕ) × (pinWithNatural f ts (rowsIn rows) ≡ done p) × Fit c × (pairIn c ≡ p)
+with-natural-compared f ts rows t =
+    comparison-fit (pinWithNatural f ts (rowsIn rows))
+    (natural-alike f ts (rowsIn rows) (row-length 16 (rows .block)) (row-length 12 (rows .account)) (row-length 16 (rows .enciphered)) (every-below 9 ts t))
 
 -- ---- the calls' chains in parts
 

@@ -1,13 +1,17 @@
 // The IBM 3624 calls over a block or over digits: offset and differences.
 ghost use mathlib.Core.Path.{_≡_};
+ghost use mathlib.Core.List.{map};
 ghost use Prim.Native.Nat.{_^_, _<_};
 ghost use lib.ListN.{length};
-ghost use Rattle.nibbles.specs.Nibbles.{every, row};
+ghost use Rattle.nibbles.specs.Nibbles.{every};
+ghost use Rattle.alphabet.specs.Alphabet.{valueOf};
 ghost use Rattle.numbers.specs.Promise.{Does, quietly};
 ghost use Rattle.pins.specs.Pins.{digit};
 ghost use Rattle.pins.specs.Answers.{readingOf};
+ghost use Rattle.ibm3624.specs.Answers.{Decimal};
 ghost use Rattle.offsets.specs.Offsets.{given, pinWithNatural, pinAndNatural, digitsGiven, offsetFor, offsetJudged, digitsJudged, offsetMade, offsetOfDigits, differencesOf};
 ghost use Rattle.offsets.specs.Answers.{givenOf, comparisonOf, refusalIn, rowsIn, pairIn, Fit, textOf, Roomy};
+use alphabet::Class;
 use formats::Chosen;
 use formats::Format;
 use numbers::Refusal;
@@ -95,10 +99,10 @@ pub fn taken(
     })
 }
 
-// The block: the PIN with its natural PIN. The table's digits are a row in a word.
-pub fn with_natural(format: Format, table: u64, rows: Rows) -> Comparison
-    requires { ⌜ rows .account < 16 ^ 12 ⌝ }
-    ensures { λ r. ⌜ r ≡ comparisonOf (pinWithNatural format (row 16 table) (rowsIn rows)) ⌝ }
+// The block: the PIN with its natural PIN.
+pub fn with_natural(format: Format, table: &[u8], rows: Rows) -> Comparison
+    requires { ⌜ Decimal (now table) × (rows .account < 16 ^ 12) ⌝ }
+    ensures { λ r. ⌜ r ≡ comparisonOf (pinWithNatural format (map valueOf (now (table .entry))) (rowsIn rows)) ⌝ }
 {
     let reading = blocks::read(format, pins::field(rows.account), rows.block);
     let Reading::Got(pin) = reading else {
@@ -122,11 +126,10 @@ pub fn paired(format: u32, table: &[u8], rows: Rows) -> Comparison
     let Chosen::Of(f) = chosen else {
         return Comparison::Bad(chosen.refusal());
     };
-    let decimals = ibm3624::decimals(table);
-    let Row::Held(digits) = decimals else {
+    if !alphabet::all_of(Class::Digit, table, 0, 16) {
         return Comparison::Bad(Refusal::Table25);
-    };
-    with_natural(f, digits, rows)
+    }
+    with_natural(f, table, rows)
 }
 
 // Whether each is 0 to 9.

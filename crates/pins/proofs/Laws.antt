@@ -2,19 +2,19 @@
 -- Assumes nothing.
 use Prim.Native.Nat.{ℕ, _+_, _-_, _^_, _≤_, _<_}
 use native.Mathlib.Omega.{arith}
-use mathlib.Core.Path.{_≡_, refl, sym, ap, _∙_}
+use mathlib.Core.Path.{_≡_, refl, sym, ap, _∙_, subst}
 use mathlib.Core.List.{List, _++_, map, [], _∷_}
 use mathlib.Core.Bool.{true, _&&_}
 use lib.ListN.{length, replicate, length-map}
-use lib.Dec.{eqb, lit<, lit≤, leb}
-use borrow.Author.Tests.{eqb-true, leb-true, lt-leb}
+use lib.Dec.{eqb, lit<, lit≤}
+use borrow.Author.Tests.{eqb-true}
 use Rattle.nibbles.specs.Nibbles.{nibs, word, row, within, every}
 use Rattle.nibbles.proofs.Lists.{Below, below-weaken, map-below, and-left, and-right}
 use Rattle.nibbles.proofs.Rows.{row-length, row-below, row-word, word-lt, word-under}
 use Rattle.nibbles.proofs.Bytes.{nibs-length, nibs-below}
 use Rattle.nibbles.proofs.Runs.{every-below, inside-low, inside-high}
 use Rattle.alphabet.specs.Alphabet.{admits, allOf, valueOf}
-use Rattle.alphabet.proofs.Laws.{value-below}
+use Rattle.alphabet.proofs.Laws.{value-below, digit-span, digit-low}
 use Rattle.alphabet.specs.declared.Class.the-variants.{Digit}
 use Rattle.numbers.specs.Numbers.{Outcome, done, refused, andThen}
 use Rattle.numbers.proofs.Laws.{passed, failed, then-done}
@@ -148,11 +148,7 @@ module _ (cs : List ℕ) (r : Row) (e : r ≡ rowOf (accountOf cs)) where
 
 -- a digit stands for 0 to 9
 digit-value : (c : ℕ) → admits Digit c ≡ true → valueOf c < 10
-unfolding valueOf
-digit-value c e =
-    let low = leb-true 0x30 c (and-left (leb 0x30 c) (leb c 0x39) e) in
-    let high = leb-true c 0x39 (and-right (leb 0x30 c) (leb c 0x39) e) in
-    rw (lt-leb 0x41 c (omega arith)) (omega arith)
+digit-value c e = subst (λ (v : ℕ). v < 10) (digit-low c e) (let h = digit-span c e in omega (arith, h .0, h .1))
 
 pub digits-below : (cs : List ℕ) → allOf Digit cs ≡ true → Below 10 (map valueOf cs)
 unfolding allOf

@@ -4,8 +4,9 @@ ghost use mathlib.Core.List.{[], _++_, map};
 ghost use Prim.Native.Nat.{_^_, _<_, _≤_};
 ghost use lib.ListN.{length, drop};
 ghost use Rattle.nibbles.specs.Nibbles.{word, row, leading};
-ghost use Rattle.alphabet.specs.Alphabet.{admits, valueOf, characters};
 ghost use Rattle.numbers.specs.Promise.{Does, quietly};
+ghost use mathlib.Core.Bool.{true};
+ghost use Rattle.alphabet.specs.Alphabet.{admits, allOf, valueOf, characters};
 ghost use Rattle.pins.specs.Pins.{pinLength, pinHanded, digitsHanded, accountOf, accountField, sized};
 ghost use Rattle.pins.specs.Answers.{countOf, readingOf, rowOf, refusalIn, refusedIn, verdictSays};
 use alphabet::Class;
@@ -103,6 +104,20 @@ pub fn values(s: &[u8]) -> u64
     w
 }
 
+// The values of at most sixteen digits, as a row: no letter need be thought of.
+pub fn digits(s: &[u8]) -> u64
+    requires { ⌜ (length (now s) ≤ 16) × (allOf Class.Digit (now s) ≡ true) ⌝ }
+    ensures { λ r. ⌜ r ≡ word (map valueOf (now (s .entry))) ⌝ }
+{
+    let mut w: u64 = 0;
+    let mut i = s.len();
+    while 0 < i {
+        i -= 1;
+        w = w * 16 + alphabet::digit(s[i]) as u64;
+    }
+    w
+}
+
 // Where the characters of a class at the beginning end.
 pub fn class_end(class: Class, s: &[u8]) -> usize
     ensures { λ r. ⌜ r ≡ length (leading (admits class) (now (s .entry))) ⌝ }
@@ -127,7 +142,7 @@ pub fn account(characters: &[u8]) -> Row
     if !alphabet::all_of(Class::Digit, characters, 0, 12) {
         return Row::Refused(Refusal::Field15);
     }
-    Row::Held(values(characters))
+    Row::Held(digits(characters))
 }
 
 // The account field, a row of sixteen.

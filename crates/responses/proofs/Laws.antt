@@ -14,10 +14,9 @@ use Rattle.numbers.specs.Numbers.{Outcome, done, refused, andThen, numberOf}
 use Rattle.numbers.specs.Promise.{Does}
 use Rattle.numbers.specs.declared.Refusal.{Refusal}
 use Rattle.numbers.specs.declared.Reply.{Reply}
-use Rattle.pins.specs.Answers.{rowOf}
 use Rattle.pins.specs.declared.Pin.{Pin}
-use Rattle.blocks.specs.Answers.{digitsOf}
-use Rattle.blocks.proofs.Laws.{Sixteen, sixteen-word, sixteen-nibs, block-held}
+use Rattle.blocks.specs.Answers.{blockOf, digitsOf}
+use Rattle.blocks.proofs.Laws.{Sixteen, sixteen-word, sixteen-nibs}
 use Rattle.ibm3624.specs.Ibm3624.{offsetText}
 use Rattle.ibm3624.proofs.Laws.{text-length}
 use Rattle.frame.specs.Frame.{opening}
@@ -26,16 +25,15 @@ use Rattle.fields.specs.Fields.{Ruling, unpointed}
 use Rattle.responses.specs.Responses as paper
 use Rattle.responses.specs.Responses.{payloadText, answerText, responding}
 use Rattle.responses.specs.Answers.{askedRow, askedOf, askedBytes, RoomToAsk, payloadOf, answeredOf, answeredText, carried, Short, Writable}
-use Rattle.responses.specs.declared.Asked.the-variants as asked
 use Rattle.responses.specs.declared.Payload.{Payload}
 use Rattle.responses.specs.declared.Payload.the-variants.{Offset, Nothing}
 
 -- ---- the asking call
 
--- a row of sixteen nibbles is the row of the bytes that are asked for
-pub row-asked : (o : Outcome (List ℕ)) → ((ns : List ℕ) → o ≡ done ns → Sixteen ns) → askedRow (rowOf o) ≡ askedOf (andThen (unpointed o) (λ ns. done (packs ns)))
-row-asked (done ns) held = ap asked.Block (block-held (word ns) ns (held ns refl) refl)
-row-asked (refused q) held = refl
+-- the row of a block is what is asked for, and a refusal in its place points at nothing
+pub block-asked : (o : Outcome (List ℕ)) → askedRow (blockOf o) ≡ askedOf (unpointed o)
+block-asked (done bytes) = refl
+block-asked (refused q) = refl
 
 -- the code's block says what is asked for, where that is the bytes of such a row
 abbrev pub Blocky : Ruling (List ℕ) → ℕ → Type 0

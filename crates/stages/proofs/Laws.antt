@@ -61,6 +61,7 @@ validation-wide cs x n e =
 pub record Held (s : List ℕ) (o : Offsetting) (next : ℕ) : Type 0 where
   pub check : o .check ≤ 12
   pub account : o .account + 12 ≤ length s
+  pub number : allOf Digit (take 12 (drop (o .account) s)) ≡ true
   pub table : o .table + 16 ≤ length s
   pub digits : allOf Digit (take 16 (drop (o .table) s)) ≡ true
   pub validation : o .validation + shapeWidth (o .shape) ≤ length s
@@ -79,7 +80,7 @@ laid s at check n₁ n₂ n₃ n₄ v₂ v₃ x e₁ e₂ e₃ e₄ =
     let a = inside s (at + n₁) 12 (omega arith) (digits .2) in
     let t = inside s (at + n₁ + n₂) 16 (omega arith) (decimals .2) in
     let v = inside s (at + n₁ + n₂ + n₃) n₄ (omega (arith, formed .0)) (formed .1) in
-    record { check = checked .3; account = a; table = t; digits = decimals .3; validation = omega arith; valid = rw wide (formed .2); shape = rw wide (formed .3); onward = v }
+    record { check = checked .3; account = a; number = digits .3; table = t; digits = decimals .3; validation = omega arith; valid = rw wide (formed .2); shape = rw wide (formed .3); onward = v }
 
 pub offsetting-held : (first : ℕ) (s : List ℕ) (at : ℕ) (o : Offsetting) (next : ℕ) → offsetting first s at ≡ read o next → Held s o next
 unfolding offsetting

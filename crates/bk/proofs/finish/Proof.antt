@@ -5,22 +5,12 @@ use borrow.Author.Needs.{needs}
 use Rattle.pins.specs.Answers.{readingOf}
 use Rattle.pins.specs.declared.Reading.the-variants.{Bad}
 use Rattle.offsets.specs.Answers.{refusalIn}
-use Rattle.offsets.specs.declared.Rows.{Rows}
-use Rattle.stages.proofs.Laws.{values-under}
 use Rattle.bk.proofs.Laws.{compared-fit, finish-unread, finish-long, finish-weak, finish-made}
 use Rattle.bk.proofs.finish.Statement.{statement}
 use Rattle.bk.proofs.finish.Tie as tie
 
-digits-at-requires : tie.Need-digits-at-requires
-digits-at-requires c κs = search needs
-
-digits-at-requires-2 : tie.Need-digits-at-requires-2
-digits-at-requires-2 c κs = search needs
-
-with-natural-requires : tie.Need-with-natural-requires
-with-natural-requires c κs =
-    let a = c .before .before .before .before .before .args in
-    values-under (a .command .now) (a .bk .offsetting .account) 12 (c .before .before .before .before .before .pre .account) _ (c .before .digits-at .ensures)
+pair-requires : tie.Need-pair-requires
+pair-requires c κs = search needs
 
 enum-known-comparison : tie.Need-enum-known-comparison
 enum-known-comparison c = search needs
@@ -34,12 +24,10 @@ refusal-requires c κs = search needs
 returns : tie.Need-returns
 returns c =
     let told = c .before in
-    let a = told .before .before .before .before .before .before .before .before .args in
-    let rows : Rows = record { block = a .boxed .block; account = told .before .before .before .before .digits-at .result; enciphered = a .boxed .enciphered } in
+    let entry = told .before .before .before .before .before in
+    let a = entry .args in
     ap Bad (c .refusal .ensures ∙ ap refusalIn (told .enum-told .given .1))
-    ∙ ap readingOf (sym (finish-unread (a .variable) (a .command .now) (a .bk) rows _
-    (told .before .before .before .before .before .before .before .before .pre) (told .before .before .before .before .digits-at .ensures) (told .before .before .before .digits-at2 .ensures)
-    _ (sym (told .enum-told .given .1) ∙ told .before .before .with-natural .ensures)))
+    ∙ ap readingOf (sym (finish-unread (a .variable) (a .command .now) (a .bk) (a .boxed) (entry .pre) _ (sym (told .enum-told .given .1) ∙ told .before .before .pair .ensures)))
 
 cast-offset-for : tie.Need-cast-offset-for
 cast-offset-for c = search needs
@@ -47,11 +35,9 @@ cast-offset-for c = search needs
 offset-for-requires : tie.Need-offset-for-requires
 offset-for-requires c κs =
     let found = c .before .before in
-    let a = found .before .before .before .before .before .before .before .before .args in
-    let rows : Rows = record { block = a .boxed .block; account = found .before .before .before .before .digits-at .result; enciphered = a .boxed .enciphered } in
-    compared-fit (a .variable) (a .command .now) (a .bk) rows _
-    (found .before .before .before .before .before .before .before .before .pre) (found .before .before .before .before .digits-at .ensures) (found .before .before .before .digits-at2 .ensures)
-    _ (sym (found .comparison .given .1) ∙ found .before .before .with-natural .ensures)
+    let entry = found .before .before .before .before .before in
+    let a = entry .args in
+    compared-fit (a .variable) (a .command .now) (a .bk) (a .boxed) (entry .pre) _ (sym (found .comparison .given .1) ∙ found .before .before .pair .ensures)
 
 enum-known-made : tie.Need-enum-known-made
 enum-known-made c = search needs
@@ -62,11 +48,10 @@ enum-told-2 c = search needs
 returns-2 : tie.Need-returns-2
 returns-2 c =
     let found = c .before .before .before .before .before in
-    let a = found .before .before .before .before .before .before .before .before .args in
-    let rows : Rows = record { block = a .boxed .block; account = found .before .before .before .before .digits-at .result; enciphered = a .boxed .enciphered } in
-    ap readingOf (sym (finish-long (a .variable) (a .command .now) (a .bk) rows _
-    (found .before .before .before .before .before .before .before .before .pre) (found .before .before .before .before .digits-at .ensures) (found .before .before .before .digits-at2 .ensures)
-    _ (sym (found .comparison .given .1) ∙ found .before .before .with-natural .ensures) _ (sym (c .enum-told2 .given .1) ∙ c .before .before .offset-for .ensures)))
+    let entry = found .before .before .before .before .before in
+    let a = entry .args in
+    ap readingOf (sym (finish-long (a .variable) (a .command .now) (a .bk) (a .boxed) (entry .pre)
+    _ (sym (found .comparison .given .1) ∙ found .before .before .pair .ensures) _ (sym (c .enum-told2 .given .1) ∙ c .before .before .offset-for .ensures)))
 
 is-weak-requires : tie.Need-is-weak-requires
 is-weak-requires c κs = search needs
@@ -74,30 +59,26 @@ is-weak-requires c κs = search needs
 returns-3 : tie.Need-returns-3
 returns-3 c =
     let found = c .before .before .before .before .before .before .before .before in
-    let a = found .before .before .before .before .before .before .before .before .args in
-    let rows : Rows = record { block = a .boxed .block; account = found .before .before .before .before .digits-at .result; enciphered = a .boxed .enciphered } in
-    ap readingOf (sym (finish-weak (a .variable) (a .command .now) (a .bk) rows _
-    (found .before .before .before .before .before .before .before .before .pre) (found .before .before .before .before .digits-at .ensures) (found .before .before .before .digits-at2 .ensures)
-    _ (sym (found .comparison .given .1) ∙ found .before .before .with-natural .ensures)
+    let entry = found .before .before .before .before .before in
+    let a = entry .args in
+    ap readingOf (sym (finish-weak (a .variable) (a .command .now) (a .bk) (a .boxed) (entry .pre)
+    _ (sym (found .comparison .given .1) ∙ found .before .before .pair .ensures)
     _ (sym (c .before .before .before .made .given .1) ∙ c .before .before .before .before .before .offset-for .ensures) (sym (c .before .is-weak .ensures) ∙ c .if1 .taken)))
 
 returns-4 : tie.Need-returns-4
 returns-4 c =
     let found = c .before .before .before .before .before .before .before .before in
-    let a = found .before .before .before .before .before .before .before .before .args in
-    let rows : Rows = record { block = a .boxed .block; account = found .before .before .before .before .digits-at .result; enciphered = a .boxed .enciphered } in
-    finish-made (a .variable) (a .command .now) (a .bk) rows _
-    (found .before .before .before .before .before .before .before .before .pre) (found .before .before .before .before .digits-at .ensures) (found .before .before .before .digits-at2 .ensures)
-    _ (sym (found .comparison .given .1) ∙ found .before .before .with-natural .ensures)
+    let entry = found .before .before .before .before .before in
+    let a = entry .args in
+    finish-made (a .variable) (a .command .now) (a .bk) (a .boxed) (entry .pre)
+    _ (sym (found .comparison .given .1) ∙ found .before .before .pair .ensures)
     _ (sym (c .before .before .before .made .given .1) ∙ c .before .before .before .before .before .offset-for .ensures) (sym (c .before .is-weak .ensures) ∙ c .if1 .left)
 
 pub finish-spec : {M : Type 1} → statement M
 finish-spec =
     tie.close
     (tie.spec
-    digits-at-requires
-    digits-at-requires-2
-    with-natural-requires
+    pair-requires
     enum-known-comparison
     enum-told
     refusal-requires

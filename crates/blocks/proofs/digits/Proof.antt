@@ -9,8 +9,8 @@ use borrow.Author.Needs.{needs}
 use Rattle.nibbles.proofs.Rows.{row-length}
 use Rattle.nibbles.specs.Nibbles.{row, leading, within}
 use Rattle.pins.specs.declared.Reading.the-variants.{Got}
-use Rattle.blocks.proofs.Laws.{lead-short, digits-end, wrong-digits, wrong-fill, right-contents}
-use Rattle.formats.specs.Formats.{leadWidth, leadOf, leastFill}
+use Rattle.blocks.proofs.Laws.{lead-short, least-small, digits-end, wrong-digits, wrong-fill, right-contents}
+use Rattle.formats.specs.Formats.{leadWidth, leadOf, fillRead, leastFill}
 use Rattle.blocks.proofs.digits.Statement.{statement}
 use Rattle.blocks.proofs.digits.Tie as tie
 
@@ -37,15 +37,19 @@ fill-read-requires c κs = search needs
 least-requires : tie.Need-least-requires
 least-requires c κs = search needs
 
-run-end-requires-2 : tie.Need-run-end-requires-2
-run-end-requires-2 c κs = (digits-end (c .before .before .before .before .before .before .args .f) 0 (c .before .before .before .before .before .before .args .n) (c .before .before .before .before .width .result) (c .before .before .before .before .width .ensures ∙ ap leadWidth (c .before .before .before .before .before .lead .ensures)) (c .before .before .before .before .before .before .pre), search needs)
+fill-end-requires : tie.Need-fill-end-requires
+fill-end-requires c κs =
+    let entry = c .before .before .before .before .before .before in
+    let lead = c .before .before .before .before .width .ensures ∙ ap leadWidth (c .before .before .before .before .before .lead .ensures) in
+    let least = c .least .ensures ∙ ap leastFill (c .before .fill-read .ensures) in
+    (omega (arith, lead-short (leadOf (entry .args .f)), lead, entry .pre), omega (arith, least, least-small (fillRead (entry .args .f))))
 
 returns-2 : tie.Need-returns-2
 returns-2 c =
     let a = c .before .before .before .before .before .before .before .before .args in
     let from = c .before .before .before .before .before .before .width .result in
     let least = c .before .before .least .ensures ∙ ap leastFill (c .before .before .before .fill-read .ensures) in
-    let run = c .before .run-end2 .ensures ∙ ap (λ (l : ℕ). from + a .n + length (leading (within l 15) (slice (from + a .n) 16 (row 16 (a .clear))))) least in
+    let run = c .before .fill-end .ensures ∙ ap (λ (l : ℕ). from + a .n + length (leading (within l 15) (slice (from + a .n) 16 (row 16 (a .clear))))) least in
     rw (wrong-fill (a .f) (a .clear) (a .n) from (c .before .before .before .before .before .before .width .ensures ∙ ap leadWidth (c .before .before .before .before .before .before .before .lead .ensures)) (c .before .before .before .before .before .before .before .before .pre) (rw (c .before .before .before .before .before .run-end .ensures) at (c .before .before .before .before .if1 .left)) (rw run at (c .if2 .taken)))
 
 part-requires : tie.Need-part-requires
@@ -59,7 +63,7 @@ returns-3 c =
     let from = c .before .before .before .before .before .before .before .width .result in
     let end = digits-end (a .f) (a .clear) (a .n) from (c .before .before .before .before .before .before .before .width .ensures ∙ ap leadWidth (c .before .before .before .before .before .before .before .before .lead .ensures)) (c .before .before .before .before .before .before .before .before .before .pre) in
     let least = c .before .before .before .least .ensures ∙ ap leastFill (c .before .before .before .before .fill-read .ensures) in
-    let run = c .before .before .run-end2 .ensures ∙ ap (λ (l : ℕ). from + a .n + length (leading (within l 15) (slice (from + a .n) 16 (row 16 (a .clear))))) least in
+    let run = c .before .before .fill-end .ensures ∙ ap (λ (l : ℕ). from + a .n + length (leading (within l 15) (slice (from + a .n) 16 (row 16 (a .clear))))) least in
     let long : a .n ≡ length (slice from (from + a .n) (row 16 (a .clear))) = sym (length-slice from (from + a .n) (row 16 (a .clear)) (rw (row-length 16 (a .clear)) end) ∙ omega arith) in
     rw (right-contents (a .f) (a .clear) (a .n) from (c .before .before .before .before .before .before .before .width .ensures ∙ ap leadWidth (c .before .before .before .before .before .before .before .before .lead .ensures)) (c .before .before .before .before .before .before .before .before .before .pre) (rw (c .before .before .before .before .before .before .run-end .ensures) at (c .before .before .before .before .before .if1 .left)) (rw run at (c .before .if2 .left)))
     (ap₂ (λ (l d : ℕ). Got (record { length = l; digits = d })) long (c .part .ensures))
@@ -75,7 +79,7 @@ digits-spec =
     returns
     fill-read-requires
     least-requires
-    run-end-requires-2
+    fill-end-requires
     returns-2
     part-requires
     returns-3)

@@ -2,12 +2,13 @@
 -- Assumes nothing.
 use Prim.Native.Nat.{ℕ}
 use native.Mathlib.Omega.{arith}
-use mathlib.Core.List.{List}
+use mathlib.Core.List.{List, map}
 use mathlib.Core.Path.{ap, sym, _∙_}
 use borrow.Author.Needs.{needs}
 use Rattle.offsets.proofs.Laws.{ap₃}
 use Rattle.offsets.specs.declared.Comparison.the-variants.{Bad}
 use Rattle.offsets.specs.Offsets.{pinWithNatural}
+use Rattle.alphabet.specs.Alphabet.{valueOf}
 use Rattle.ibm3624.specs.Ibm3624.{naturalOf}
 use Rattle.blocks.proofs.Laws.{read-pinned}
 use Rattle.blocks.specs.Blocks.{readRow}
@@ -37,7 +38,7 @@ refusal-requires c κs = search needs
 returns : tie.Need-returns
 unfolding pinWithNatural
 returns c =
-    let a = c .before .before .before .before .before .args in
+    let a = c .before .before .before .before .before .before .args in
     let field = field-row ((a .rows) .account) (c .before .before .before .before .field .result) (c .before .before .before .before .field .ensures) in
     let o = readRow (a .format) (row 16 (c .before .before .before .before .field .result)) (row 16 ((a .rows) .block)) in
     let q = ap (λ (v : List ℕ). readRow (a .format) v (row 16 ((a .rows) .block))) (sym field) ∙ reading-bad o _ (sym (c .before .enum-told .given .1) ∙ c .before .before .before .read .ensures) in
@@ -45,24 +46,24 @@ returns c =
 
 natural-requires : tie.Need-natural-requires
 natural-requires c κs =
-    let a = c .before .before .before .before .before .args in
+    let a = c .before .before .before .before .before .before .args in
     let with = row 16 (c .before .before .before .before .field .result) in
     let block = row 16 ((a .rows) .block) in
     let h = reading-got (readRow (a .format) with block) _ (sym (c .before .reading .given .1) ∙ c .before .before .before .read .ensures) in
     let p = read-pinned (a .format) with block (h .0) (row-length 16 (c .before .before .before .before .field .result)) (row-length 16 ((a .rows) .block)) (h .1) in
     let n = ap (λ (x : Pin). x .length) (h .2) in
-    omega (arith, p .short, n)
+    (omega (arith, p .short, n), c .before .before .before .before .before .before .pre .0)
 
 returns-2 : tie.Need-returns-2
 unfolding pinWithNatural
 returns-2 c =
-    let a = c .before .before .before .before .before .before .args in
+    let a = c .before .before .before .before .before .before .before .args in
     let field = field-row ((a .rows) .account) (c .before .before .before .before .before .field .result) (c .before .before .before .before .before .field .ensures) in
     let o = readRow (a .format) (row 16 (c .before .before .before .before .before .field .result)) (row 16 ((a .rows) .block)) in
     let h = reading-got o _ (sym (c .before .before .reading .given .1) ∙ c .before .before .before .before .read .ensures) in
     let n = ap (λ (x : Pin). x .length) (h .2) in
     let d = ap (λ (v : List ℕ). readRow (a .format) v (row 16 ((a .rows) .block))) (sym field) ∙ h .1 in
-    let w = ap (λ (x : Pin). x .digits) (c .natural .ensures) ∙ ap (λ (k : ℕ). word (naturalOf k (row 16 (a .table)) (row 16 ((a .rows) .enciphered)))) n in
+    let w = ap (λ (x : Pin). x .digits) (c .natural .ensures) ∙ ap (λ (k : ℕ). word (naturalOf k (map valueOf (a .table .now)) (row 16 ((a .rows) .enciphered)))) n in
     rw d (ap₃ n (ap (λ (x : Pin). x .digits) (h .2)) w)
 
 pub with-natural-spec : {M : Type 1} → statement M

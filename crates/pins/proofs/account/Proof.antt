@@ -26,14 +26,16 @@ returns-2 c =
     let other : allOf Digit cs ≡ _ = ap (allOf Digit) (sym (take-all 12 cs (omega arith))) ∙ sym (c .before .all-of .ensures) ∙ not-true _ (c .if2 .taken) in
     rw (eq-eqb _ _ (c .before .before .if1 .left), other)
 
-values-requires : tie.Need-values-requires
-values-requires c κs = search needs
+digits-requires : tie.Need-digits-requires
+digits-requires c κs =
+    let cs = c .before .before .before .before .args .characters .now in
+    (omega arith, ap (allOf Digit) (sym (take-all 12 cs (omega arith))) ∙ sym (c .before .all-of .ensures) ∙ not-false _ (c .if2 .left))
 
 returns-3 : tie.Need-returns-3
 returns-3 c =
     let cs = c .before .before .before .before .before .args .characters .now in
     let all : allOf Digit cs ≡ _ = ap (allOf Digit) (sym (take-all 12 cs (omega arith))) ∙ sym (c .before .before .all-of .ensures) ∙ not-false _ (c .before .if2 .left) in
-    rw (eq-eqb _ _ (c .before .before .before .if1 .left), all, padded-twelve (map valueOf cs) (length-map cs valueOf ∙ c .before .before .before .if1 .left)) (ap Held (c .values .ensures))
+    rw (eq-eqb _ _ (c .before .before .before .if1 .left), all, padded-twelve (map valueOf cs) (length-map cs valueOf ∙ c .before .before .before .if1 .left)) (ap Held (c .digits .ensures))
 
 pub account-spec : {M : Type 1} → statement M
-account-spec = tie.close (tie.spec returns all-of-requires returns-2 values-requires returns-3)
+account-spec = tie.close (tie.spec returns all-of-requires returns-2 digits-requires returns-3)

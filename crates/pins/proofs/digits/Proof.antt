@@ -1,0 +1,88 @@
+-- `pins::digits` meets its contract.
+-- Assumes nothing.
+use Prim.Native.Nat.{ℕ, _≤_, _-_}
+use native.Mathlib.Omega.{arith}
+use mathlib.Core.List.{map}
+use mathlib.Core.Path.{_≡_, ap, _∙_}
+use lib.ListN.{length, drop, getD, length-map}
+use borrow.Author.Needs.{needs}
+use Rattle.alphabet.proofs.Laws.{value-below, digit-at}
+use Rattle.nibbles.proofs.Lists.{map-at, map-below}
+use Rattle.nibbles.proofs.Rows.{word-next, word-room, word-none}
+use Rattle.alphabet.specs.Alphabet.{valueOf}
+use Rattle.nibbles.specs.Nibbles.{word}
+use Rattle.pins.proofs.digits.Statement.{statement}
+use Rattle.pins.proofs.digits.Tie as tie
+
+abbrev Inv-loop : tie.InvT-loop
+Inv-loop s w₀ i₀ w i = (i ≤ length s) × (w ≡ word (drop i (map valueOf s)))
+
+abbrev μ-loop : tie.MeasureT-loop
+μ-loop s w₀ i₀ w i = i
+
+loop-holds : tie.Need-loop-holds Inv-loop μ-loop
+loop-holds c =
+    let s = c .before .args .s .now in
+    (search needs, rw (← length-map s valueOf) (word-none (map valueOf s)))
+
+sub-i : tie.Need-sub-i Inv-loop μ-loop
+sub-i c = search needs
+
+mul-w : tie.Need-mul-w Inv-loop μ-loop
+mul-w c =
+    let l = c .before .loop in
+    let s = c .before .before .before .args .s .now in
+    omega (arith, word-room (map valueOf s) (l .i) (l .w) (omega arith) (rw (length-map s valueOf) (l .inv .0)) (l .inv .1) (map-below 16 valueOf value-below s) (rw (length-map s valueOf) (omega arith)))
+
+shared-slice-read-digit : tie.Need-shared-slice-read-digit Inv-loop μ-loop
+shared-slice-read-digit c = search needs
+
+digit-requires : tie.Need-digit-requires Inv-loop μ-loop
+digit-requires c κs =
+    let entry = c .before .before .before .before in
+    digit-at (entry .args .s .now) (c .before .before .loop .i - 1) (entry .pre .1) (omega (arith, c .before .before .loop .inv .0))
+
+cast-w : tie.Need-cast-w Inv-loop μ-loop
+cast-w c = omega (arith, value-below (getD (c .before .before .before .before .before .args .s .now) (c .before .before .before .loop .i - 1) 0))
+
+add-w : tie.Need-add-w Inv-loop μ-loop
+add-w c =
+    let l = c .before .before .before .loop in
+    let s = c .before .before .before .before .before .args .s .now in
+    rw (c .digit .ensures, ← map-at valueOf s (l .i - 1) 0 0 (omega arith))
+    (record { fits = word-room (map valueOf s) (l .i) (l .w) (omega arith) (rw (length-map s valueOf) (l .inv .0)) (l .inv .1) (map-below 16 valueOf value-below s) (rw (length-map s valueOf) (omega arith)) })
+
+loop-less : tie.Need-loop-less Inv-loop μ-loop
+loop-less c = search needs
+
+loop-again : tie.Need-loop-again Inv-loop μ-loop
+loop-again c =
+    let l = c .before .before .before .loop in
+    let s = c .before .before .before .before .before .args .s .now in (
+      omega arith,
+      rw (c .digit .ensures, ← map-at valueOf s (l .i - 1) 0 0 (omega arith))
+          (word-next (map valueOf s) (l .i) (l .w) (omega arith) (rw (length-map s valueOf) (l .inv .0)) (l .inv .1)),
+    )
+
+returns : tie.Need-returns Inv-loop μ-loop
+returns c =
+    let l = c .before .loop in
+    let z : l .i ≡ 0 = omega arith in
+    l .inv .1 ∙ ap (λ (k : ℕ). word (drop k (map valueOf (c .before .before .before .args .s .now)))) z
+
+pub digits-spec : {M : Type 1} → statement M
+digits-spec =
+    tie.close
+    (tie.spec
+    Inv-loop
+    μ-loop
+    loop-holds
+    sub-i
+    mul-w
+    shared-slice-read-digit
+    digit-requires
+    cast-w
+    add-w
+    loop-less
+    loop-again
+    returns)
