@@ -8,3 +8,4 @@ pub mod Calls
 pub mod Promises
 pub mod Numbers
 pub mod Codes
+pub mod Figures

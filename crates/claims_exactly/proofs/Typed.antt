@@ -1,17 +1,23 @@
 -- The commands that are typed, computed.
 -- Assumes nothing.
 use native.Mathlib.Omega.{arith}
-use mathlib.Core.Path.{refl}
+use mathlib.Core.Path.{_≡_, refl}
 use mathlib.Core.Logic.{inl, inr}
 use mathlib.Core.Bool.{Bool, true, false}
-use Rattle.nibbles.specs.Nibbles.{packs}
+use Rattle.nibbles.specs.Nibbles.{nibs, packs, xors, every, leading, same}
 use Rattle.alphabet.specs.Alphabet.{allOf, valueOf}
-use Rattle.settings.specs.Settings.{usually}
+use Rattle.settings.specs.Settings.{usually, variably}
+use Rattle.blocks.specs.Blocks.{contents, readRow}
+use Rattle.ibm3624.specs.Ibm3624.{differences}
+use Rattle.offsets.specs.Offsets.{pinWithNatural}
+use Rattle.weak.specs.Weak.{isOn}
 use Rattle.texts.specs.Characters.{printed}
 use Rattle.texts_keys.specs.KeyTexts.{pinKeyRule, pvkRule, IsBlock}
 use Rattle.texts_data.specs.DataTexts.{Allows}
 use Rattle.claims_exactly.specs.BkText.{IsBk, IsHeader}
-use Rattle.claims_exactly.specs.Typed.{shortest, longest, full, FullIsBk, FullIsAsked, spare, SpareIsBk, SpareIsAsked}
+use Rattle.claims_exactly.specs.Typed.{shortest, longest, full, FullIsBk, FullIsAsked, fullBlock, fullEnciphered, fullSaid, FullIsAnswered, spare, SpareIsBk, SpareIsAsked}
+use Rattle.claims_exactly.specs.Responses.{finishOf, responseTo}
+use Rattle.claims_exactly.proofs.Finish.{answers-parts}
 use Rattle.claims_exactly.proofs.Responses.{asks-parts}
 
 shortest-is : IsBlock pinKeyRule shortest
@@ -77,6 +83,13 @@ header-is = (omega arith, (refl, refl))
 pub full-is-asked : FullIsAsked
 unfolding packs valueOf
 full-is-asked room roomy = asks-parts usually room (printed "HDR1") full roomy header-is (full-is false tt)
+
+pub full-is-answered : FullIsAnswered
+unfolding nibs xors every leading same valueOf contents readRow pinWithNatural differences isOn
+full-is-answered room roomy = (said true, said false)
+  where
+    said : (variable : Bool) → fullSaid variable room ≡ responseTo (printed "HDR1") full (finishOf variable full fullBlock fullEnciphered)
+    said variable = answers-parts (variably usually variable) fullBlock fullEnciphered room (printed "HDR1") full refl refl roomy header-is (full-is false tt)
 
 pub spare-is-asked : SpareIsAsked
 unfolding packs valueOf

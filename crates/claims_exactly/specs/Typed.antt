@@ -2,13 +2,14 @@
 use Prim.Native.Char.{code}
 use Prim.Native.Nat.{ℕ, _≤_}
 use mathlib.Core.Path.{_≡_}
-use mathlib.Core.Bool.{true, false}
+use mathlib.Core.Bool.{Bool, true, false}
 use mathlib.Core.List.{List, [], _∷_, _++_}
 use lib.ListN.{replicate}
 use Rattle.numbers.specs.Numbers.{done}
-use Rattle.settings.specs.Settings.{usually}
+use Rattle.numbers.specs.Promise.{Said}
+use Rattle.settings.specs.Settings.{usually, variably}
 use Rattle.formats.specs.declared.Format.the-variants.{F03, F47}
-use Rattle.commands.specs.Commands.{asked}
+use Rattle.commands.specs.Commands.{asked, answered}
 use Rattle.texts.specs.Characters.{printed}
 use Rattle.texts.specs.Texts.{absent, present}
 use Rattle.texts_keys.specs.KeyTexts.{KeyBlock, is002, isFFF, double, triple, block}
@@ -70,6 +71,27 @@ FullIsBk = IsBk true full × IsBk false full × (bkText full ≡ fullText)
 abbrev pub FullIsAsked : Type 0
 FullIsAsked = (room : ℕ) → 8 ≤ room
     → asked usually (printed "HDR1BK" ++ fullText) room ≡ done (0xFE ∷ 0xDC ∷ 0xBA ∷ 0x98 ∷ 0x76 ∷ 0x54 ∷ 0x32 ∷ 0x10 ∷ [])
+
+-- ---- the whole exchange with it
+
+-- PIN 246813 in format 47 under the account: 36 24 68 13 FA BC DE FA, XORed with 00 00 40 00 00 12 34 56
+abbrev pub fullBlock : List ℕ
+fullBlock = 0x36 ∷ 0x24 ∷ 0x28 ∷ 0x13 ∷ 0xFA ∷ 0xAE ∷ 0xEA ∷ 0xAC ∷ []
+
+-- its table turns the first six nibbles into 948576
+abbrev pub fullEnciphered : List ℕ
+fullEnciphered = 0x0F ∷ 0x1E ∷ 0x2D ∷ 0x3C ∷ 0x4B ∷ 0x5A ∷ 0x69 ∷ 0x78 ∷ []
+
+-- what is said to it, under a setting for variable length
+abbrev pub fullSaid : Bool → ℕ → Said ℕ
+fullSaid variable room = answered (variably usually variable) true true (printed "HDR1BK" ++ fullText) fullBlock fullEnciphered room
+
+-- with offsets of variable length all six digits are covered, 246813 less 948576, and the trailer comes back; its check length of
+-- twelve, over six, is 81 otherwise
+abbrev pub FullIsAnswered : Type 0
+FullIsAnswered = (room : ℕ) → 65 ≤ room
+    → (fullSaid true room ≡ record { number = 0; written = printed "HDR1BL00308347FFFFFF" ++ (0x19 ∷ printed " The trailer has 32 characters.~") })
+    × (fullSaid false room ≡ record { number = 81; written = printed "HDR1BL81" })
 
 -- another one: type 002, a `T` and a `U` key, `N` data, one weak PIN of twelve digits, no id, and a trailer of its mark alone
 abbrev pub spare : BkParts
