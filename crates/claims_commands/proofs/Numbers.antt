@@ -22,8 +22,10 @@ use Rattle.pins.specs.Pins.{accountField, sized}
 use Rattle.blocks.specs.Blocks.{readRow}
 use Rattle.blocks.proofs.Laws.{sixteen-bytes}
 use Rattle.validation.specs.Validation.{validationRow}
-use Rattle.ibm3624.specs.Ibm3624.{naturalOf, covers, offsetOf, offsetText}
-use Rattle.ibm3624.proofs.Laws.{text-length}
+use Rattle.naturals.specs.Naturals.{naturalOf}
+use Rattle.ibm3624.specs.Ibm3624.{covers, offsetOf}
+use Rattle.offsettexts.specs.OffsetTexts.{offsetText}
+use Rattle.offsettexts.proofs.Laws.{text-length}
 use Rattle.offsets.specs.Offsets.{pinWithNatural, offsetFor}
 use Rattle.frame.specs.Frame.{isFramed, codeOf, opening}
 use Rattle.frame.specs.declared.Code.{Code}

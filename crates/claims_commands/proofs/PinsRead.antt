@@ -19,7 +19,8 @@ use Rattle.settings.specs.declared.Settings.{Settings}
 use Rattle.formats.specs.declared.Format.{Format}
 use Rattle.pins.specs.Pins.{accountField, sized}
 use Rattle.blocks.specs.Blocks.{readRow}
-use Rattle.ibm3624.specs.Ibm3624.{naturalOf, covers, offsetOf}
+use Rattle.naturals.specs.Naturals.{naturalOf}
+use Rattle.ibm3624.specs.Ibm3624.{covers, offsetOf}
 use Rattle.offsets.specs.Offsets.{pinWithNatural, offsetFor}
 use Rattle.keybox.specs.KeyBox.{slices, parities, boxed}
 use Rattle.responses.specs.Responses.{Payload, offset, answerText, responding}

@@ -12,7 +12,7 @@ use Rattle.alphabet.specs.Alphabet.{characters}
 use Rattle.numbers.specs.Numbers.{Outcome, done, refused, andThen, numberOf}
 use Rattle.numbers.specs.Promise.{Said}
 use Rattle.settings.specs.declared.Settings.{Settings}
-use Rattle.ibm3624.specs.Ibm3624.{offsetText}
+use Rattle.offsettexts.specs.OffsetTexts.{offsetText}
 use Rattle.keybox.specs.KeyBox.{boxed}
 use Rattle.frame.specs.Frame.{opening}
 use Rattle.frame.specs.declared.Code.the-variants as code

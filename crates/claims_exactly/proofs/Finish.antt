@@ -15,7 +15,9 @@ use Rattle.numbers.specs.declared.Refusal.{Refusal}
 use Rattle.numbers.specs.declared.Refusal.the-variants.{Block20, Length24, Check81, Weak86}
 use Rattle.pins.specs.Pins.{accountField}
 use Rattle.blocks.specs.Blocks.{readRow}
-use Rattle.ibm3624.specs.Ibm3624.{offsetText, naturalOf, offsetOf}
+use Rattle.offsettexts.specs.OffsetTexts.{offsetText}
+use Rattle.naturals.specs.Naturals.{naturalOf}
+use Rattle.ibm3624.specs.Ibm3624.{offsetOf}
 use Rattle.offsets.specs.Offsets.{pinWithNatural, offsetFor}
 use Rattle.keybox.specs.KeyBox.{slices, parities, boxed}
 use Rattle.fields.specs.Fields.{unpointed, heard}

@@ -19,7 +19,8 @@ use Rattle.numbers.specs.declared.Refusal.{Refusal}
 use Rattle.numbers.specs.declared.Refusal.the-variants.{Check81, Weak86, Frame902}
 use Rattle.settings.specs.declared.Settings.{Settings}
 use Rattle.pins.specs.Pins.{accountField}
-use Rattle.ibm3624.specs.Ibm3624.{naturalOf, offsetOf}
+use Rattle.naturals.specs.Naturals.{naturalOf}
+use Rattle.ibm3624.specs.Ibm3624.{offsetOf}
 use Rattle.offsets.specs.Offsets.{offsetFor}
 use Rattle.frame.specs.Frame.{isFramed, codeOf, opening}
 use Rattle.frame.specs.declared.Code.{Code}

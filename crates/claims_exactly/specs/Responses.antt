@@ -19,7 +19,7 @@ use Rattle.formats.specs.declared.Lead.{Lead}
 use Rattle.formats.specs.declared.Lead.the-variants.{Bare, Control}
 use Rattle.pins.specs.Pins.{accountField}
 use Rattle.blocks.specs.Blocks.{writeRow}
-use Rattle.ibm3624.specs.Ibm3624.{offsetText}
+use Rattle.offsettexts.specs.OffsetTexts.{offsetText}
 use Rattle.offsets.specs.Offsets.{pinWithNatural, offsetFor}
 use Rattle.weak.specs.Weak.{isOn}
 use Rattle.commands.specs.Commands.{asked, answered}

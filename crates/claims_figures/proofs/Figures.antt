@@ -10,7 +10,8 @@ use Rattle.alphabet.specs.Alphabet.{allOf, valueOf}
 use Rattle.formats.specs.Formats.{codeOf}
 use Rattle.blocks.specs.Blocks.{contents, readRow, writeRow, readBlock, writeBlock}
 use Rattle.validation.specs.Validation.{shapeOf, validationRow, validationBlock}
-use Rattle.ibm3624.specs.Ibm3624.{naturalPin, differences}
+use Rattle.naturals.specs.Naturals.{naturalPin}
+use Rattle.ibm3624.specs.Ibm3624.{differences}
 use Rattle.offsets.specs.Offsets.{offsetJudged, digitsJudged}
 use Rattle.pvv.specs.Pvv.{those, pvvOf, inputRow, pvvGiven, pvvInput, pvvMade}
 use Rattle.claims_figures.specs.Figures.{AsPrinted, figures, AllFigures}

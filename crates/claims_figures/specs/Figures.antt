@@ -8,7 +8,7 @@ use Rattle.numbers.specs.Numbers.{Outcome}
 use Rattle.numbers.specs.Promise.{Said, quietly}
 use Rattle.blocks.specs.Blocks.{readBlock, writeBlock}
 use Rattle.validation.specs.Validation.{validationBlock}
-use Rattle.ibm3624.specs.Ibm3624.{naturalPin}
+use Rattle.naturals.specs.Naturals.{naturalPin}
 use Rattle.offsets.specs.Offsets.{offsetMade, offsetOfDigits}
 use Rattle.pvv.specs.Pvv.{pvvInput, pvvMade}
 use Rattle.claims_blocks.specs.Figures.{usualAccount, usualPin, longPin, blockP1, blockP6}

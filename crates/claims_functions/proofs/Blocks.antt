@@ -1,6 +1,6 @@
 -- One answer to every promise of the crates of PIN blocks: each function cites the law of its shape.
 -- Assumes nothing.
-use Rattle.claims_functions.specs.Blocks.{BlocksSettled, TranslationSettled, ValidationSettled, Ibm3624Settled, PvvSettled, OffsetsSettled, VerdictsSettled}
+use Rattle.claims_functions.specs.Blocks.{BlocksSettled, TranslationSettled, ValidationSettled, NaturalsSettled, Ibm3624Settled, OffsetTextsSettled, PvvSettled, OffsetsSettled, VerdictsSettled}
 use Rattle.claims_functions.proofs.Once.{settled, left, answered, verdict}
 
 pub blocks-once : BlocksSettled
@@ -28,15 +28,23 @@ validation-once = record {
   validation-block = λ κs a r r′ ends ends′. answered 2;
 }
 
+pub naturals-once : NaturalsSettled
+naturals-once = record {
+  natural = λ κs a r r′ ends ends′. settled;
+  natural-pin = λ κs a r r′ ends ends′. answered 3;
+}
+
 pub ibm3624-once : Ibm3624Settled
 ibm3624-once = record {
-  natural = λ κs a r r′ ends ends′. settled;
   covering = λ κs a r r′ ends ends′. settled;
   offset = λ κs a r r′ ends ends′. settled;
   put-differences = λ κs a r r′ ends ends′. left 4;
+}
+
+pub offset-texts-once : OffsetTextsSettled
+offset-texts-once = record {
   put-offset = λ κs a r r′ ends ends′. left 2;
   presented = λ κs a r r′ ends ends′. settled;
-  natural-pin = λ κs a r r′ ends ends′. answered 3;
 }
 
 pub pvv-once : PvvSettled

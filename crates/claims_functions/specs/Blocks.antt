@@ -4,7 +4,9 @@
 use Rattle.blocks.proofs as Blocks
 use Rattle.translation.proofs as Translation
 use Rattle.validation.proofs as Validation
+use Rattle.naturals.proofs as Naturals
 use Rattle.ibm3624.proofs as Ibm3624
+use Rattle.offsettexts.proofs as OffsetTexts
 use Rattle.pvv.proofs as Pvv
 use Rattle.offsets.proofs as Offsets
 use Rattle.verdicts.proofs as Verdicts
@@ -32,15 +34,21 @@ pub record ValidationSettled : Type 0 where
   pub Shape·row : Settled Validation.Shape.row.ended Validation.Shape.row.Reads.Learnt
   pub validation-block : Settled Validation.validation_block.ended Validation.validation_block.Reads.Learnt
 
+-- every public function of naturals
+pub record NaturalsSettled : Type 0 where
+  pub natural : Settled Naturals.natural.ended Naturals.natural.Reads.Learnt
+  pub natural-pin : Settled Naturals.natural_pin.ended Naturals.natural_pin.Reads.Learnt
+
 -- every public function of ibm3624
 pub record Ibm3624Settled : Type 0 where
-  pub natural : Settled Ibm3624.natural.ended Ibm3624.natural.Reads.Learnt
   pub covering : Settled Ibm3624.covering.ended Ibm3624.covering.Reads.Learnt
   pub offset : Settled Ibm3624.offset.ended Ibm3624.offset.Reads.Learnt
   pub put-differences : Settled Ibm3624.put_differences.ended Ibm3624.put_differences.Reads.Learnt
-  pub put-offset : Settled Ibm3624.put_offset.ended Ibm3624.put_offset.Reads.Learnt
-  pub presented : Settled Ibm3624.presented.ended Ibm3624.presented.Reads.Learnt
-  pub natural-pin : Settled Ibm3624.natural_pin.ended Ibm3624.natural_pin.Reads.Learnt
+
+-- every public function of offsettexts
+pub record OffsetTextsSettled : Type 0 where
+  pub put-offset : Settled OffsetTexts.put_offset.ended OffsetTexts.put_offset.Reads.Learnt
+  pub presented : Settled OffsetTexts.presented.ended OffsetTexts.presented.Reads.Learnt
 
 -- every public function of pvv
 pub record PvvSettled : Type 0 where

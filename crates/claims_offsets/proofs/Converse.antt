@@ -19,7 +19,8 @@ use Rattle.numbers.specs.Numbers.{Outcome, done, refused, andThen, unless}
 use Rattle.numbers.specs.declared.Refusal.the-variants.{Unverified01, Field15, Room901}
 use Rattle.numbers.proofs.Laws.{passed, then-done}
 use Rattle.pins.specs.Pins.{sized}
-use Rattle.ibm3624.specs.Ibm3624.{covers, covered, offsetOf, offsetText, moduloTen, digitEnd, offsetPresented}
+use Rattle.ibm3624.specs.Ibm3624.{covers, covered, offsetOf, moduloTen}
+use Rattle.offsettexts.specs.OffsetTexts.{offsetText, digitEnd, offsetPresented}
 use Rattle.offsets.specs.Offsets.{digitsGiven, offsetJudged, spelt}
 use Rattle.verdicts.specs.Verdicts.{offsetVerdict}
 use Rattle.offsets.proofs.Laws.{offset-parts, digits-parts, differences-parts}

@@ -19,8 +19,12 @@ use Rattle.pins.specs.Pins.{lastOf, accountOf, accountField, sized}
 use Rattle.pins.proofs.Laws.{sized-done, account-done}
 use Rattle.blocks.specs.Blocks.{readRow}
 use Rattle.blocks.proofs.Laws.{Blocky, read-pinned, sixteen-bytes, bytes-sixteen}
-use Rattle.ibm3624.specs.Ibm3624.{tableSized, tableOf, naturalPin, checkLength, covers, differences, covered, moduloTen, offsetOf, offsetText}
-use Rattle.ibm3624.proofs.Laws.{covered-many, natural-done, natural-long, text-length}
+use Rattle.naturals.specs.Naturals.{tableSized, tableOf, naturalPin}
+use Rattle.ibm3624.specs.Ibm3624.{checkLength, covers, differences, covered, moduloTen, offsetOf}
+use Rattle.offsettexts.specs.OffsetTexts.{offsetText}
+use Rattle.ibm3624.proofs.Laws.{covered-many}
+use Rattle.naturals.proofs.Laws.{natural-done, natural-long}
+use Rattle.offsettexts.proofs.Laws.{text-length}
 use Rattle.offsets.specs.Offsets.{given, pinWithNatural, pinAndNatural, digitsGiven, offsetFor, offsetJudged, digitsJudged, offsetMade, offsetOfDigits, differencesOf}
 use Rattle.offsets.proofs.Laws.{offset-parts, digits-parts, differences-parts, digits-alike, covers-within}
 use Rattle.pvv.specs.Pvv.{pvvOf, pvvInput, pvvMade}

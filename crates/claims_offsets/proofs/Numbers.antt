@@ -22,7 +22,7 @@ use Rattle.translation.specs.Translation.{translateBlock}
 use Rattle.translation.proofs.Laws.{call-translated}
 use Rattle.validation.specs.Validation.{validationRow, validationBlock}
 use Rattle.validation.proofs.Laws.{call-block}
-use Rattle.ibm3624.specs.Ibm3624.{tableSized, tableOf, naturalOf, naturalPin}
+use Rattle.naturals.specs.Naturals.{tableSized, tableOf, naturalOf, naturalPin}
 use Rattle.offsets.specs.Offsets.{given, offsetMade, offsetOfDigits, differencesOf}
 use Rattle.verdicts.specs.Verdicts.{offsetVerdict}
 use Rattle.verdicts.proofs.Laws as verdicts

@@ -23,7 +23,9 @@ use Rattle.blocks.specs.Blocks.{readRow}
 use Rattle.validation.specs.Validation.{shapeOf, replaced, shaped, validationRow}
 use Rattle.validation.specs.declared.Shape.{Shape}
 use Rattle.validation.specs.declared.Shape.the-variants.{Template, Whole, Neither}
-use Rattle.ibm3624.specs.Ibm3624.{tableSized, tableOf, naturalOf, naturalHanded, checkLength, covers, covered, offsetOf, offsetText, digitEnd, offsetPresented}
+use Rattle.naturals.specs.Naturals.{tableSized, tableOf, naturalOf, naturalHanded}
+use Rattle.ibm3624.specs.Ibm3624.{checkLength, covers, covered, offsetOf}
+use Rattle.offsettexts.specs.OffsetTexts.{offsetText, digitEnd, offsetPresented}
 use Rattle.offsets.specs.Offsets.{given, pinWithNatural, pinAndNatural, digitsGiven, offsetJudged, digitsJudged, offsetMade, offsetOfDigits, differencesOf}
 use Rattle.offsets.proofs.Laws.{offset-parts, digits-parts, differences-parts}
 use Rattle.verdicts.specs.Verdicts.{offsetVerdict}

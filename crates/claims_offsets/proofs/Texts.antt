@@ -17,8 +17,10 @@ use Rattle.alphabet.specs.declared.Class.the-variants.{Digit}
 use Rattle.numbers.specs.Numbers.{done, unless}
 use Rattle.numbers.specs.declared.Refusal.the-variants.{Room901}
 use Rattle.numbers.proofs.Laws.{then-done, value-of}
-use Rattle.ibm3624.specs.Ibm3624.{covers, covered, offsetOf, offsetText, digitEnd, offsetPresented}
-use Rattle.ibm3624.proofs.Laws.{reduced-below, offset-many, text-length, text-head}
+use Rattle.ibm3624.specs.Ibm3624.{covers, covered, offsetOf}
+use Rattle.offsettexts.specs.OffsetTexts.{offsetText, digitEnd, offsetPresented}
+use Rattle.ibm3624.proofs.Laws.{reduced-below, offset-many}
+use Rattle.offsettexts.proofs.Laws.{text-length, text-head}
 use Rattle.offsets.specs.Offsets.{given, pinAndNatural, offsetFor, offsetJudged}
 use Rattle.offsets.proofs.Laws.{offset-parts, pair-alike, given-laid, covers-within}
 use Rattle.verdicts.specs.Verdicts.{offsetVerdict}

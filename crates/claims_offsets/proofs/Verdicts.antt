@@ -11,7 +11,8 @@ use Rattle.nibbles.proofs.Lists.{same-refl, same-true, same-false}
 use Rattle.numbers.specs.Numbers.{Outcome, done, unless}
 use Rattle.numbers.specs.declared.Refusal.the-variants.{Unverified01}
 use Rattle.numbers.proofs.Laws.{passed}
-use Rattle.ibm3624.specs.Ibm3624.{covers, offsetOf, offsetPresented}
+use Rattle.ibm3624.specs.Ibm3624.{covers, offsetOf}
+use Rattle.offsettexts.specs.OffsetTexts.{offsetPresented}
 use Rattle.offsets.specs.Offsets.{given, pinAndNatural}
 use Rattle.verdicts.specs.Verdicts.{offsetVerdict}
 use Rattle.verdicts.proofs.Laws.{verdict-parts}

@@ -12,7 +12,8 @@ use Rattle.formats.specs.Formats.{codeOf, formatOf, blockWidth}
 use Rattle.formats.specs.declared.Format.{Format}
 use Rattle.pins.specs.Pins.{accountOf, accountField, sized}
 use Rattle.blocks.specs.Blocks.{readRow}
-use Rattle.ibm3624.specs.Ibm3624.{covers, offsetOf, offsetText, offsetPresented, difference, moduloTen}
+use Rattle.ibm3624.specs.Ibm3624.{covers, offsetOf, difference, moduloTen}
+use Rattle.offsettexts.specs.OffsetTexts.{offsetText, offsetPresented}
 use Rattle.offsets.specs.Offsets.{given, pinAndNatural, offsetMade, offsetOfDigits, digitsJudged, differencesOf}
 use Rattle.verdicts.specs.Verdicts.{offsetVerdict}
 use Rattle.pvv.specs.Pvv.{pvvOf, keyIndex, presented, pvvMade, pvvVerdict}

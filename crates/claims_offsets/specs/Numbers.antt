@@ -6,7 +6,7 @@ use mathlib.Core.Bool.{Bool, true}
 use lib.ListN.{length}
 use Rattle.numbers.specs.Promise.{Said, quietly}
 use Rattle.validation.specs.Validation.{validationBlock}
-use Rattle.ibm3624.specs.Ibm3624.{naturalPin}
+use Rattle.naturals.specs.Naturals.{naturalPin}
 use Rattle.offsets.specs.Offsets.{offsetMade, offsetOfDigits, differencesOf}
 use Rattle.verdicts.specs.Verdicts.{offsetVerdict}
 use Rattle.pvv.specs.Pvv.{pvvInput, pvvMade, pvvVerdict}

@@ -26,8 +26,11 @@ use Rattle.pins.proofs.Laws.{Pinned, handed-done, account-done, digits-below, t
 use Rattle.blocks.specs.Blocks.{readRow}
 use Rattle.blocks.proofs.Laws.{Sixteen, bytes-sixteen, sixteen-word, read-pinned}
 use Rattle.pins.specs.Answers.{readingOf}
-use Rattle.ibm3624.specs.Ibm3624.{tableOf, covered, offsetOf, offsetText, checkLength, covers, naturalHanded, tableSized}
-use Rattle.ibm3624.proofs.Laws.{natural-long, natural-digits, offset-many, reduced-below}
+use Rattle.naturals.specs.Naturals.{tableOf, naturalHanded, tableSized}
+use Rattle.ibm3624.specs.Ibm3624.{covered, offsetOf, checkLength, covers}
+use Rattle.offsettexts.specs.OffsetTexts.{offsetText}
+use Rattle.naturals.proofs.Laws.{natural-long, natural-digits}
+use Rattle.ibm3624.proofs.Laws.{offset-many, reduced-below}
 use Rattle.ibm3624.specs.Answers.{Matched}
 use Rattle.offsets.specs.Offsets.{given, pinWithNatural, pinAndNatural, digitsGiven, offsetFor, offsetJudged, digitsJudged, spelt, differencesOf}
 use Rattle.offsets.specs.Answers.{givenOf, comparisonOf, rowsIn, pairIn, Fit, textOf, Roomy}

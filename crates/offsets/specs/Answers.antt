@@ -12,7 +12,7 @@ use Rattle.pins.specs.Pins.{digit}
 use Rattle.pins.specs.declared.Reading.{Reading}
 use Rattle.pins.specs.declared.Reading.the-variants as reading
 use Rattle.blocks.specs.Answers.{digitsOf}
-use Rattle.ibm3624.specs.Ibm3624.{offsetText}
+use Rattle.offsettexts.specs.OffsetTexts.{offsetText}
 use Rattle.offsets.specs.declared.Rows.{Rows}
 use Rattle.offsets.specs.declared.Given.{Given}
 use Rattle.offsets.specs.declared.Given.the-variants as taken

@@ -11,7 +11,9 @@ use Rattle.formats.specs.Formats.{codeOf, formatOf, blockWidth}
 use Rattle.formats.specs.declared.Format.{Format}
 use Rattle.pins.specs.Pins.{pinHanded, accountOf, accountField, sized}
 use Rattle.blocks.specs.Blocks.{readRow}
-use Rattle.ibm3624.specs.Ibm3624.{tableSized, tableOf, naturalOf, naturalHanded, checkLength, covers, covered, offsetOf, offsetText}
+use Rattle.naturals.specs.Naturals.{tableSized, tableOf, naturalOf, naturalHanded}
+use Rattle.ibm3624.specs.Ibm3624.{checkLength, covers, covered, offsetOf}
+use Rattle.offsettexts.specs.OffsetTexts.{offsetText}
 
 -- ---- the calls, each one chain in the paper's order
 

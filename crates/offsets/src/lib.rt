@@ -8,7 +8,7 @@ ghost use Rattle.alphabet.specs.Alphabet.{valueOf};
 ghost use Rattle.numbers.specs.Promise.{Does, quietly};
 ghost use Rattle.pins.specs.Pins.{digit};
 ghost use Rattle.pins.specs.Answers.{readingOf};
-ghost use Rattle.ibm3624.specs.Answers.{Decimal};
+ghost use Rattle.naturals.specs.Answers.{Decimal};
 ghost use Rattle.offsets.specs.Offsets.{given, pinWithNatural, pinAndNatural, digitsGiven, offsetFor, offsetJudged, digitsJudged, offsetMade, offsetOfDigits, differencesOf};
 ghost use Rattle.offsets.specs.Answers.{givenOf, comparisonOf, refusalIn, rowsIn, pairIn, Fit, textOf, Roomy};
 use alphabet::Class;
@@ -109,7 +109,7 @@ pub fn with_natural(format: Format, table: &[u8], rows: Rows) -> Comparison
         return Comparison::Bad(reading.refusal());
     };
     let n = pin.length;
-    let natural = ibm3624::natural(n, table, rows.enciphered);
+    let natural = naturals::natural(n, table, rows.enciphered);
     Comparison::Of(Compared {
         length: n,
         pin: pin.digits,
@@ -202,7 +202,7 @@ pub fn answer(judged: Reading, out: &mut [u8]) -> Reply
     let Reading::Got(offset) = judged else {
         return Reply::refused(judged.refusal());
     };
-    ibm3624::put_offset(offset.length, offset.digits, out);
+    offsettexts::put_offset(offset.length, offset.digits, out);
     Reply::done(12)
 }
 

@@ -19,7 +19,7 @@ use Rattle.blocks.specs.Answers.{blockOf}
 use Rattle.blocks.proofs.Laws.{Sixteen}
 use Rattle.validation.specs.Validation.{validationRow}
 use Rattle.validation.proofs.Laws.{row-sixteen, row-block}
-use Rattle.ibm3624.specs.Answers.{Decimal}
+use Rattle.naturals.specs.Answers.{Decimal}
 use Rattle.offsets.specs.Offsets.{pinWithNatural}
 use Rattle.offsets.specs.Answers.{comparisonOf, pairIn, rowsIn, Fit}
 use Rattle.offsets.specs.declared.Rows.{Rows}

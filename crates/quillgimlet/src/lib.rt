@@ -6,7 +6,7 @@ ghost use Rattle.blocks.specs.Blocks.{readBlock, writeBlock};
 ghost use mathlib.Core.List.{[]};
 ghost use Rattle.translation.specs.Translation.{translateBlock};
 ghost use Rattle.validation.specs.Validation.{validationBlock};
-ghost use Rattle.ibm3624.specs.Ibm3624.{naturalPin};
+ghost use Rattle.naturals.specs.Naturals.{naturalPin};
 ghost use Rattle.offsets.specs.Offsets.{offsetMade, offsetOfDigits, differencesOf};
 ghost use Rattle.verdicts.specs.Verdicts.{offsetVerdict};
 ghost use Rattle.pvv.specs.Pvv.{pvvInput, pvvMade, pvvVerdict};
@@ -133,7 +133,7 @@ pub extern "C" fn qg_natural_pin(
 ) -> Reply
     ensures { λ r. ⌜ Does (quietly (naturalPin length (now (table .entry)) (now (enciphered .entry)) (lib.ListN.length (now (out .entry))))) (now (out .entry)) r (now (out .exit)) ⌝ }
 {
-    ibm3624::natural_pin(length, table, enciphered, out)
+    naturals::natural_pin(length, table, enciphered, out)
 }
 
 #[no_mangle]

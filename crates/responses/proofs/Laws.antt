@@ -17,8 +17,8 @@ use Rattle.numbers.specs.declared.Reply.{Reply}
 use Rattle.pins.specs.declared.Pin.{Pin}
 use Rattle.blocks.specs.Answers.{blockOf, digitsOf}
 use Rattle.blocks.proofs.Laws.{Sixteen, sixteen-word, sixteen-nibs}
-use Rattle.ibm3624.specs.Ibm3624.{offsetText}
-use Rattle.ibm3624.proofs.Laws.{text-length}
+use Rattle.offsettexts.specs.OffsetTexts.{offsetText}
+use Rattle.offsettexts.proofs.Laws.{text-length}
 use Rattle.frame.specs.Frame.{opening}
 use Rattle.frame.proofs.Laws.{over-lent, opening-length}
 use Rattle.fields.specs.Fields.{Ruling, unpointed}

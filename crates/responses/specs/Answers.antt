@@ -10,7 +10,7 @@ use Rattle.pins.specs.Answers.{pinOf}
 use Rattle.pins.specs.declared.Row.{Row}
 use Rattle.pins.specs.declared.Row.the-variants.{Held, Refused}
 use Rattle.blocks.specs.Answers.{digitsOf}
-use Rattle.ibm3624.specs.Ibm3624.{offsetText}
+use Rattle.offsettexts.specs.OffsetTexts.{offsetText}
 use Rattle.fields.specs.Fields.{Ruling}
 use Rattle.fields.specs.Answers.{noFault}
 use Rattle.fields.specs.declared.Fault.{Fault}

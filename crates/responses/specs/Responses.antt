@@ -4,7 +4,7 @@ use mathlib.Core.List.{List, [], _++_}
 use lib.ListN.{drop}
 use Rattle.numbers.specs.Numbers.{Outcome, done, refused, andThen, numberOf}
 use Rattle.numbers.specs.Promise.{Said}
-use Rattle.ibm3624.specs.Ibm3624.{offsetText}
+use Rattle.offsettexts.specs.OffsetTexts.{offsetText}
 use Rattle.frame.specs.Frame.{opening}
 use Rattle.fields.specs.Fields.{Stage, Ruling, ruled, unpointed}
 

@@ -83,7 +83,7 @@ fn put_payload(payload: Payload, out: &mut [u8]) -> usize
 {
     match payload {
         Payload::Offset(offset) => {
-            ibm3624::put_offset(offset.length, offset.digits, out);
+            offsettexts::put_offset(offset.length, offset.digits, out);
             12
         }
         Payload::Nothing => 0,

@@ -26,7 +26,9 @@ use Rattle.numbers.specs.declared.Refusal.{Refusal}
 use Rattle.numbers.specs.declared.Refusal.the-variants.{Field15, Check81, Unverified01}
 use Rattle.numbers.proofs.Laws.{passed, failed, then-done, value-of}
 use Rattle.alphabet.specs.Alphabet.{valueOf}
-use Rattle.ibm3624.specs.Ibm3624.{tableSized, tableOf, checkLength, covered, offsetOf, covers, digitEnd, offsetPresented}
+use Rattle.naturals.specs.Naturals.{tableSized, tableOf}
+use Rattle.ibm3624.specs.Ibm3624.{checkLength, covered, offsetOf, covers}
+use Rattle.offsettexts.specs.OffsetTexts.{digitEnd, offsetPresented}
 use Rattle.ibm3624.proofs.Laws.{offset-many, reduced-below}
 use Rattle.offsets.specs.Offsets.{given, pinWithNatural, pinAndNatural, offsetFor}
 use Rattle.offsets.specs.Answers.{pairIn}

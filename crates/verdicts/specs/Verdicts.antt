@@ -10,7 +10,9 @@ use Rattle.numbers.specs.declared.Refusal.the-variants.{Check81}
 use Rattle.formats.specs.Formats.{codeOf, formatOf, blockWidth}
 use Rattle.pins.specs.Pins.{accountOf, accountField, sized, verdict}
 use Rattle.blocks.specs.Blocks.{readRow}
-use Rattle.ibm3624.specs.Ibm3624.{tableSized, tableOf, naturalOf, checkLength, covers, offsetOf, offsetPresented}
+use Rattle.naturals.specs.Naturals.{tableSized, tableOf, naturalOf}
+use Rattle.ibm3624.specs.Ibm3624.{checkLength, covers, offsetOf}
+use Rattle.offsettexts.specs.OffsetTexts.{offsetPresented}
 
 -- the call, one chain in the paper's order: 15 for check length, block, account, table, enciphered block and presented offset; 23 and 69;
 -- 25; the block; then "m over n or an offset without exactly m digits is 81. The verdict is 00 exactly when the offset is the one defined

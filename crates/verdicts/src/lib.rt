@@ -52,7 +52,7 @@ fn judged_verdict(
     let Given::Of(rows) = fields else {
         return Verdict::Refused(Refusal::Field15);
     };
-    let shown = ibm3624::presented(offset);
+    let shown = offsettexts::presented(offset);
     let Reading::Got(presented) = shown else {
         return Verdict::Refused(Refusal::Field15);
     };

@@ -6,8 +6,8 @@ use mathlib.Core.Path.{ap, sym, _∙_, subst}
 use lib.ListN.{length, drop}
 use borrow.Author.Needs.{needs}
 use Rattle.offsets.specs.Answers.{textOf, Roomy}
-use Rattle.ibm3624.proofs.Laws.{text-length}
-use Rattle.ibm3624.specs.Ibm3624.{offsetText}
+use Rattle.offsettexts.proofs.Laws.{text-length}
+use Rattle.offsettexts.specs.OffsetTexts.{offsetText}
 use Rattle.blocks.specs.Answers.{digitsOf}
 use Rattle.pins.specs.declared.Reading.{Reading}
 use Rattle.pins.specs.Answers.{refusalIn}

@@ -5,7 +5,7 @@ use borrow.Author.Tests.{not-true, not-false}
 use borrow.Author.Needs.{needs}
 use Rattle.offsets.specs.declared.Comparison.the-variants.{Bad}
 use Rattle.offsets.specs.Offsets.{pinAndNatural}
-use Rattle.ibm3624.proofs.Laws.{table-judged}
+use Rattle.naturals.proofs.Laws.{table-judged}
 use Rattle.formats.proofs.Laws.{chosen-of, chosen-bad}
 use Rattle.formats.specs.Answers as formats
 use Rattle.formats.specs.Formats.{codeOf, formatOf}

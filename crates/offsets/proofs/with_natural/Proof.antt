@@ -9,7 +9,7 @@ use Rattle.offsets.proofs.Laws.{ap₃}
 use Rattle.offsets.specs.declared.Comparison.the-variants.{Bad}
 use Rattle.offsets.specs.Offsets.{pinWithNatural}
 use Rattle.alphabet.specs.Alphabet.{valueOf}
-use Rattle.ibm3624.specs.Ibm3624.{naturalOf}
+use Rattle.naturals.specs.Naturals.{naturalOf}
 use Rattle.blocks.proofs.Laws.{read-pinned}
 use Rattle.blocks.specs.Blocks.{readRow}
 use Rattle.pins.proofs.Laws.{field-row, reading-got, reading-bad}

@@ -8,7 +8,7 @@ use Rattle.offsets.proofs.Laws.{given-fit, given-none, given-compared, given-in
 use Rattle.verdicts.proofs.Laws.{verdict-parts, presented-refused, presented-held}
 use Rattle.offsets.specs.Answers.{refusalIn}
 use Rattle.verdicts.specs.Verdicts.{verdictOn}
-use Rattle.ibm3624.specs.Ibm3624.{offsetPresented}
+use Rattle.offsettexts.specs.OffsetTexts.{offsetPresented}
 use Rattle.pins.proofs.Laws.{reading-bad}
 use Rattle.pins.specs.declared.Verdict.the-variants.{Refused}
 use Rattle.pins.specs.Answers.{verdictOf}

@@ -1,17 +1,17 @@
--- `ibm3624::natural_pin` meets its contract.
+-- `naturals::natural_pin` meets its contract.
 -- Assumes nothing.
 use mathlib.Core.Path.{ap, sym, _∙_, subst}
 use lib.ListN.{length}
 use borrow.Author.Needs.{needs}
-use Rattle.ibm3624.proofs.Laws.{natural-digital}
-use Rattle.ibm3624.specs.Ibm3624.{naturalPin}
+use Rattle.naturals.proofs.Laws.{natural-digital}
+use Rattle.naturals.specs.Naturals.{naturalPin}
 use Rattle.blocks.proofs.Laws.{Digital, answered-digits, roomy-digits}
 use Rattle.blocks.specs.Answers.{digitsIn, RoomyDigits}
 use Rattle.nibbles.proofs.Bytes.{bytes-below}
 use Rattle.pins.specs.declared.Reading.{Reading}
 use Rattle.numbers.proofs.Laws.{does-as}
-use Rattle.ibm3624.proofs.natural_pin.Statement.{statement}
-use Rattle.ibm3624.proofs.natural_pin.Tie as tie
+use Rattle.naturals.proofs.natural_pin.Statement.{statement}
+use Rattle.naturals.proofs.natural_pin.Tie as tie
 
 judged-natural-requires : tie.Need-judged-natural-requires
 judged-natural-requires c κs = search needs

@@ -1,4 +1,4 @@
--- `ibm3624::natural` meets its contract.
+-- `naturals::natural` meets its contract.
 -- Assumes nothing.
 use Prim.Native.Nat.{ℕ, _≤_, _-_}
 use native.Mathlib.Omega.{arith}
@@ -6,14 +6,14 @@ use mathlib.Core.List.{map}
 use mathlib.Core.Path.{_≡_, sym, ap, _∙_, ap₂}
 use lib.ListN.{drop, getD}
 use borrow.Author.Needs.{needs}
-use Rattle.ibm3624.proofs.Laws.{naturalRow, natural-length, natural-below, natural-at}
+use Rattle.naturals.proofs.Laws.{naturalRow, natural-length, natural-below, natural-at}
 use Rattle.nibbles.proofs.Rows.{word-next, word-room, word-none, row-at-lt}
 use Rattle.alphabet.specs.Alphabet.{valueOf}
 use Rattle.alphabet.proofs.Laws.{value-below, digit-at}
-use Rattle.ibm3624.specs.Ibm3624.{naturalOf}
+use Rattle.naturals.specs.Naturals.{naturalOf}
 use Rattle.nibbles.specs.Nibbles.{row, word}
-use Rattle.ibm3624.proofs.natural.Statement.{statement}
-use Rattle.ibm3624.proofs.natural.Tie as tie
+use Rattle.naturals.proofs.natural.Statement.{statement}
+use Rattle.naturals.proofs.natural.Tie as tie
 
 abbrev Inv-loop : tie.InvT-loop
 Inv-loop n table enciphered w₀ i₀ w i = (i ≤ n) × (w ≡ word (drop i (naturalOf n (map valueOf table) (row 16 enciphered))))

@@ -1,4 +1,4 @@
--- `ibm3624::only_f` meets its contract.
+-- `offsettexts::only_f` meets its contract.
 -- Assumes nothing.
 use Prim.Native.Nat.{ℕ, _≤_, _-_}
 use native.Mathlib.Omega.{arith}
@@ -7,8 +7,8 @@ use lib.ListN.{length, drop, getD}
 use borrow.Author.Needs.{needs}
 use Rattle.nibbles.proofs.Runs.{every-stop, every-on, inside, every-none, not-f}
 use Rattle.nibbles.specs.Nibbles.{every, within}
-use Rattle.ibm3624.proofs.only_f.Statement.{statement}
-use Rattle.ibm3624.proofs.only_f.Tie as tie
+use Rattle.offsettexts.proofs.only_f.Statement.{statement}
+use Rattle.offsettexts.proofs.only_f.Tie as tie
 
 abbrev Inv-loop : tie.InvT-loop
 Inv-loop s from i₀ i = (from ≤ i) × (i ≤ length s) × (every (within 0x46 0x46) (drop from s) ≡ every (within 0x46 0x46) (drop i s))

@@ -1,4 +1,4 @@
--- `ibm3624::put_offset` meets its contract.
+-- `offsettexts::put_offset` meets its contract.
 -- Assumes nothing.
 use Prim.Native.Nat.{ℕ, _+_, _≤_, _-_}
 use native.Mathlib.Omega.{arith}
@@ -6,14 +6,14 @@ use mathlib.Core.List.{List, _++_}
 use mathlib.Core.Path.{_≡_, sym, ap, _∙_}
 use lib.ListN.{length, take, drop, length-map}
 use borrow.Author.Needs.{needs}
-use Rattle.ibm3624.proofs.Laws.{text-length, text-head, text-fill, started, kept-length, kept-rest}
+use Rattle.offsettexts.proofs.Laws.{text-length, text-head, text-fill, started, kept-length, kept-rest}
 use Rattle.nibbles.proofs.Lists.{over-step, over-end, over-length}
 use Rattle.nibbles.proofs.Rows.{row-length}
-use Rattle.ibm3624.specs.Ibm3624.{offsetText}
+use Rattle.offsettexts.specs.OffsetTexts.{offsetText}
 use Rattle.alphabet.specs.Alphabet.{characters}
 use Rattle.nibbles.specs.Nibbles.{row}
-use Rattle.ibm3624.proofs.put_offset.Statement.{statement}
-use Rattle.ibm3624.proofs.put_offset.Tie as tie
+use Rattle.offsettexts.proofs.put_offset.Statement.{statement}
+use Rattle.offsettexts.proofs.put_offset.Tie as tie
 
 abbrev Inv-loop : tie.InvT-loop
 Inv-loop m digits out₀ i₀ out i = (m ≤ i) × (i ≤ 12) × (out ≡ take i (offsetText (row m digits)) ++ drop i out₀)

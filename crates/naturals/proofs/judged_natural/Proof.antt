@@ -1,4 +1,4 @@
--- `ibm3624::judged_natural` meets its contract.
+-- `naturals::judged_natural` meets its contract.
 -- Assumes nothing.
 use Prim.Native.Nat.{ℕ, _≤_}
 use native.Mathlib.Omega.{arith}
@@ -6,9 +6,9 @@ use mathlib.Core.List.{List, map}
 use mathlib.Core.Path.{ap, sym, _∙_, subst}
 use borrow.Author.Tests.{le-leb, lt-leb, eq-eqb, ne-eqb, not-true, not-false}
 use borrow.Author.Needs.{needs}
-use Rattle.ibm3624.proofs.Laws.{table-judged}
+use Rattle.naturals.proofs.Laws.{table-judged}
 use Rattle.alphabet.specs.Alphabet.{valueOf}
-use Rattle.ibm3624.specs.Ibm3624.{naturalOf, naturalPin}
+use Rattle.naturals.specs.Naturals.{naturalOf, naturalPin}
 use Rattle.pins.proofs.Laws.{sized-held, sized-not, count-of, count-bad, block-row}
 use Rattle.pins.specs.declared.Reading.the-variants.{Got}
 use Rattle.pins.specs.Answers.{pinOf}
@@ -18,8 +18,8 @@ use Rattle.numbers.specs.declared.Refusal.the-variants.{Length24}
 use Rattle.nibbles.proofs.Bytes.{bytes-below}
 use Rattle.nibbles.proofs.Runs.{inside-high}
 use Rattle.nibbles.specs.Nibbles.{nibs, within}
-use Rattle.ibm3624.proofs.judged_natural.Statement.{statement}
-use Rattle.ibm3624.proofs.judged_natural.Tie as tie
+use Rattle.naturals.proofs.judged_natural.Statement.{statement}
+use Rattle.naturals.proofs.judged_natural.Tie as tie
 
 returns : tie.Need-returns
 unfolding naturalPin

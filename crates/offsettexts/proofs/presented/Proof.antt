@@ -1,4 +1,4 @@
--- `ibm3624::presented` meets its contract.
+-- `offsettexts::presented` meets its contract.
 -- Assumes nothing.
 use Prim.Native.Nat.{ℕ}
 use native.Mathlib.Omega.{arith}
@@ -7,14 +7,14 @@ use lib.Seq.{length-take-le}
 use lib.ListN.{length, take, drop, length-map}
 use borrow.Author.Tests.{eq-eqb, ne-eqb, le-leb, lt-leb, not-true, not-false}
 use borrow.Author.Needs.{needs}
-use Rattle.ibm3624.specs.Ibm3624.{digitEnd}
+use Rattle.offsettexts.specs.OffsetTexts.{digitEnd}
 use Rattle.pins.specs.declared.Reading.the-variants.{Got}
 use Rattle.alphabet.specs.declared.Class.the-variants.{Digit}
 use Rattle.alphabet.specs.Alphabet.{admits, valueOf}
 use Rattle.nibbles.proofs.Runs.{leading-le}
 use Rattle.nibbles.specs.Nibbles.{every, within}
-use Rattle.ibm3624.proofs.presented.Statement.{statement}
-use Rattle.ibm3624.proofs.presented.Tie as tie
+use Rattle.offsettexts.proofs.presented.Statement.{statement}
+use Rattle.offsettexts.proofs.presented.Tie as tie
 
 returns : tie.Need-returns
 returns c = rw (ne-eqb _ _ (c .if1 .taken))

@@ -1,0 +1,2 @@
+pub mod Naturals
+pub mod Answers
