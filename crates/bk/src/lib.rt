@@ -136,9 +136,9 @@ pub fn answer(
     let BkRead::Got(bk) = reread else {
         return Answered::Bad(reread.fault());
     };
-    let answered = keybox::key_box(command.len(), pinparity, pvkparity, block, enciphered);
-    let BoxRead::Got(boxed) = answered else {
-        return Answered::Bad(answered.fault());
+    let taken = keybox::key_box(command.len(), pinparity, pvkparity, block, enciphered);
+    let BoxRead::Got(boxed) = taken else {
+        return Answered::Bad(taken.fault());
     };
     let finished = finish(settings.variable, command, bk, boxed);
     let Reading::Got(offset) = finished else {

@@ -32,7 +32,7 @@ pub record Layout (n : ℕ) (F X A S : Type 0) : Type 1 where
   pub passes : Passes n start (block .stage)
   pub place : A → ℕ
   pub placed : (f : F) (x : X) (at : ℕ) (p : tail f x .writing at .Part) → place (tail f x .writing at .value p) ≡ start x
-  -- what finish and response look at in the command itself: it stands behind the block
+  -- what the response copies out of the command itself: it stands behind the block
   pub seen : A → List ℕ → S
   pub looked : (f : F) (x : X) (at : ℕ) (p : tail f x .writing at .Part) (s t : List ℕ) → ((i : ℕ) → at ≤ i → drop i s ≡ drop i t)
       → seen (tail f x .writing at .value p) s ≡ seen (tail f x .writing at .value p) t

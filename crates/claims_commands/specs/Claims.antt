@@ -50,8 +50,8 @@ BytesTell = (header : ℕ) (s t : List ℕ) → ((number : ℕ) → opening head
 abbrev pub saying : {n : ℕ} {F X A S R B : Type 0} → Layout n F X A S → (List ℕ → A → R → Outcome B) → (B → List ℕ) → (S → List ℕ) → ℕ → List ℕ → A → R → Said ℕ
 saying c finish text trail header s a rows = responding header s (andThen (finish s a rows) (λ b. done (text b ++ trail (c .seen a s))))
 
--- so two runs of any command, alike outside the block's characters, answer alike exactly when they finish alike. For any finish, any
--- text of what it comes to, and any trailer
+-- so two runs of any command, alike outside the block's characters, say alike exactly when they finish alike. For any finish, any text
+-- of what it comes to, and any trailer. That a command's answer is what is said here is each command's own law
 abbrev pub AnswersTell : Type 1
 AnswersTell = (n : ℕ) (F X A S R B : Type 0) (c : Layout n F X A S) (finish : List ℕ → A → R → Outcome B)
     (Fine : B → Type 0) (text : B → List ℕ) (trail : S → List ℕ) → ((x y : B) → Fine x → Fine y → text x ≡ text y → x ≡ y)

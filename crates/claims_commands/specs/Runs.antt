@@ -9,10 +9,9 @@ use Rattle.settings.specs.declared.Settings.{Settings}
 use Rattle.frame.specs.Frame.{isFramed, codeOf}
 use Rattle.frame.specs.declared.Code.{Code}
 use Rattle.frame.specs.declared.Code.the-variants as code
-use Rattle.offsets.specs.Offsets.{pinWithNatural}
 use Rattle.fields.specs.Fields as field
 use Rattle.keybox.specs.KeyBox as keybox
-use Rattle.stages.specs.Stages.{accountIn, tableIn}
+use Rattle.pairing.specs.Pairing.{pairAt}
 use Rattle.bk.specs.Bk.{bkFields}
 use Rattle.bk.specs.declared.Bk.{Bk}
 use Rattle.responses.specs.Responses.{roomToAnswer}
@@ -52,7 +51,7 @@ Reaches settings pinKeyGood pvkGood room s block enciphered =
 
 -- its PIN and its natural PIN
 abbrev pub pairIn : List ℕ → Bk → List ℕ × List ℕ → Outcome (List ℕ × List ℕ)
-pairIn s p rows = pinWithNatural (p .sealed .format) (tableIn s (p .offsetting)) (rows .0, accountIn s (p .offsetting), rows .1)
+pairIn s p rows = pairAt s (p .sealed) (p .offsetting) rows
 
 abbrev pub Reads : Settings → Bool → Bool → ℕ → List ℕ → List ℕ → List ℕ → Type 0
 Reads settings pinKeyGood pvkGood room s block enciphered =

@@ -3,7 +3,6 @@ use Prim.Native.Nat.{ℕ}
 use mathlib.Core.List.{List}
 use Rattle.nibbles.specs.Nibbles.{word}
 use Rattle.numbers.specs.Numbers.{Outcome, done, refused}
-use Rattle.numbers.specs.declared.Refusal.{Refusal}
 use Rattle.fields.specs.Fields.{Ruling}
 use Rattle.fields.specs.Answers.{noFault}
 use Rattle.fields.specs.declared.Fault.{Fault}

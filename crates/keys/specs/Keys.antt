@@ -59,9 +59,10 @@ letterS = 0x53
 
 -- a key, where the field admits its letter: "another letter is 26"
 abbrev pub admitted : Bool → Found Lmk → Found Lmk
-admitted admits found = cond admits found (refused Key26)
+admitted allowed found = cond allowed found (refused Key26)
 
--- "U + 32 or T + 48 hex characters", S and a key block, or a bare key: 32 hex characters without a letter
+-- "U + 32 or T + 48 hex characters", S and a key block; or a bare key, 32 hex characters without a letter, which the paper does not have
+-- and no key type admits
 unfoldable pub lettered : Letters → Use → List ℕ → Found Lmk
 lettered letters for cs =
     cond (marked letterU cs) (behind 1 (admitted (letters .double) (hexKey 32 (drop 1 cs))))

@@ -1,5 +1,5 @@
 -- "Offset, verdict and PVV": an offset as characters, as it is written and as it is presented.
-use Prim.Native.Nat.{ℕ, _+_, _-_}
+use Prim.Native.Nat.{ℕ, _-_}
 use mathlib.Core.List.{List, _++_, map}
 use mathlib.Core.Bool.{_&&_}
 use lib.ListN.{length, take, drop, replicate}

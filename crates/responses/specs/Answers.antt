@@ -3,7 +3,6 @@ use Prim.Native.Nat.{ℕ, _+_, _≤_}
 use mathlib.Core.List.{List, [], _++_}
 use lib.ListN.{length, drop}
 use Rattle.nibbles.specs.Nibbles.{word, nibs, row, packs}
-use Rattle.nibbles.proofs.Lists.{Below}
 use Rattle.numbers.specs.Numbers.{done, refused}
 use Rattle.settings.specs.Settings.{longestHeader}
 use Rattle.pins.specs.Answers.{pinOf}

@@ -96,7 +96,7 @@ behindLetter (block k) = blockText k
 abbrev pub keyText : Key → List ℕ
 keyText k = letter k ++ behindLetter k
 
--- "`U` + 32 or `T` + 48 hex characters", a bare key of 32, or a key block of the rule
+-- "`U` + 32 or `T` + 48 hex characters", or a key block of the rule; a bare key of 32 is no type's
 abbrev pub IsKey : KeyRule → Key → Type 0
 IsKey rule (bare cs) = Run CapitalHex 32 cs
 IsKey rule (double cs) = Run CapitalHex 32 cs

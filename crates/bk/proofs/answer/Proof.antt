@@ -35,8 +35,8 @@ returns c =
 key-box-requires : tie.Need-key-box-requires
 key-box-requires c κs = search needs
 
-enum-known-answered : tie.Need-enum-known-answered
-enum-known-answered c = search needs
+enum-known-taken : tie.Need-enum-known-taken
+enum-known-taken c = search needs
 
 enum-told-2 : tie.Need-enum-told-2
 enum-told-2 c = search needs
@@ -82,7 +82,7 @@ returns-3 c =
     ∙ ap answeredOf (sym (answer-unfinished (a .settings) (a .pinparity) (a .pvkparity) (a .command .now) (a .start .at) (a .block .now) (a .enciphered .now)
     _ (sym (got .reread .given .1) ∙ got .before .before .read .ensures)
     _ (bytes-below (a .block .now) (got .before .before .before .before .shared-slice-known2 .given)) (bytes-below (a .enciphered .now) (got .before .before .before .shared-slice-known3 .given))
-    (sym (box .answered .given .1) ∙ box .before .before .key-box .ensures)
+    (sym (box .taken .given .1) ∙ box .before .before .key-box .ensures)
     _ (sym (told .enum-told3 .given .1) ∙ told .before .before .finish .ensures)))
 
 returns-4 : tie.Need-returns-4
@@ -93,7 +93,7 @@ returns-4 c =
     answer-made (a .settings) (a .pinparity) (a .pvkparity) (a .command .now) (a .start .at) (a .block .now) (a .enciphered .now)
     _ (sym (got .reread .given .1) ∙ got .before .before .read .ensures)
     _ (bytes-below (a .block .now) (got .before .before .before .before .shared-slice-known2 .given)) (bytes-below (a .enciphered .now) (got .before .before .before .shared-slice-known3 .given))
-    (sym (box .answered .given .1) ∙ box .before .before .key-box .ensures)
+    (sym (box .taken .given .1) ∙ box .before .before .key-box .ensures)
     _ (sym (c .before .finished .given .1) ∙ c .before .before .before .finish .ensures)
 
 pub answer-spec : {M : Type 1} → statement M
@@ -106,7 +106,7 @@ answer-spec =
     fault-requires
     returns
     key-box-requires
-    enum-known-answered
+    enum-known-taken
     enum-told-2
     fault-requires-2
     returns-2
