@@ -27,11 +27,15 @@ use Rattle.responses.proofs.Laws.{Fine, Sound}
 use Rattle.uses.specs.Uses.{pinKey, pvk}
 use Rattle.weak.specs.Weak.{isOn, weakPins}
 use Rattle.weak.specs.declared.Weak.{Weak}
-use Rattle.stages.specs.Stages.{keys, sealed, offsetting, weak}
-use Rattle.stages.specs.declared.Keys.{Keys}
-use Rattle.stages.specs.declared.Sealed.{Sealed}
-use Rattle.stages.specs.declared.Offsetting.{Offsetting}
-use Rattle.stages.proofs.Laws.{offsetting-held, weak-held}
+use Rattle.keyfields.specs.KeyFields.{keys}
+use Rattle.sealed.specs.Sealed.{sealed}
+use Rattle.offsetting.specs.Offsetting.{offsetting}
+use Rattle.weaklist.specs.WeakList.{weak}
+use Rattle.keyfields.specs.declared.Keys.{Keys}
+use Rattle.sealed.specs.declared.Sealed.{Sealed}
+use Rattle.offsetting.specs.declared.Offsetting.{Offsetting}
+use Rattle.offsetting.proofs.Laws.{offsetting-held}
+use Rattle.weaklist.proofs.Laws.{weak-held}
 use Rattle.endings.specs.Endings.{end}
 use Rattle.endings.proofs.Laws.{end-held}
 use Rattle.pairing.specs.Pairing.{askedAt, pairAt}

@@ -10,16 +10,25 @@ use Rattle.fields.specs.declared.Cursor.{Cursor}
 use Rattle.fields.specs.declared.Fault.{Fault}
 use Rattle.uses.specs.Uses.{pinKey, pvk}
 use Rattle.weak.specs.declared.Weak.{Weak}
-use Rattle.stages.specs.Stages.{keys, sealed, offsetting, weak}
-use Rattle.stages.specs.Answers.{keysRead, sealedRead, offsettingRead, weakStage}
-use Rattle.stages.specs.declared.Keys.{Keys}
-use Rattle.stages.specs.declared.Sealed.{Sealed}
-use Rattle.stages.specs.declared.Offsetting.{Offsetting}
-use Rattle.stages.specs.declared.KeysRead.the-variants as keyed
-use Rattle.stages.specs.declared.SealedRead.the-variants as blocked
-use Rattle.stages.specs.declared.OffsettingRead.the-variants as data-read
-use Rattle.stages.specs.declared.WeakStage.the-variants as listed
-use Rattle.stages.proofs.Reading.{keys-found, keys-bad, sealed-found, sealed-bad, offsetting-found, offsetting-bad, weak-found, weak-bad}
+use Rattle.keyfields.specs.KeyFields.{keys}
+use Rattle.sealed.specs.Sealed.{sealed}
+use Rattle.offsetting.specs.Offsetting.{offsetting}
+use Rattle.weaklist.specs.WeakList.{weak}
+use Rattle.keyfields.specs.Answers.{keysRead}
+use Rattle.sealed.specs.Answers.{sealedRead}
+use Rattle.offsetting.specs.Answers.{offsettingRead}
+use Rattle.weaklist.specs.Answers.{weakStage}
+use Rattle.keyfields.specs.declared.Keys.{Keys}
+use Rattle.sealed.specs.declared.Sealed.{Sealed}
+use Rattle.offsetting.specs.declared.Offsetting.{Offsetting}
+use Rattle.keyfields.specs.declared.KeysRead.the-variants as keyed
+use Rattle.sealed.specs.declared.SealedRead.the-variants as blocked
+use Rattle.offsetting.specs.declared.OffsettingRead.the-variants as data-read
+use Rattle.weaklist.specs.declared.WeakStage.the-variants as listed
+use Rattle.keyfields.proofs.Reading.{keys-found, keys-bad}
+use Rattle.sealed.proofs.Reading.{sealed-found, sealed-bad}
+use Rattle.offsetting.proofs.Reading.{offsetting-found, offsetting-bad}
+use Rattle.weaklist.proofs.Laws.{weak-found, weak-bad}
 use Rattle.endings.specs.Endings.{end}
 use Rattle.endings.specs.Answers.{endOf}
 use Rattle.endings.specs.declared.End.the-variants as ended

@@ -12,7 +12,10 @@ use Rattle.fields.specs.Fields.{Stage, read, onward, Ruling, ruled, unpointed}
 use Rattle.responses.specs.Responses.{Payload, offset, answering}
 use Rattle.uses.specs.Uses.{pinKey, pvk}
 use Rattle.weak.specs.Weak.{isOn, weakPins}
-use Rattle.stages.specs.Stages.{keys, sealed, offsetting, weak}
+use Rattle.keyfields.specs.KeyFields.{keys}
+use Rattle.sealed.specs.Sealed.{sealed}
+use Rattle.offsetting.specs.Offsetting.{offsetting}
+use Rattle.weaklist.specs.WeakList.{weak}
 use Rattle.endings.specs.Endings.{end}
 use Rattle.pairing.specs.Pairing.{askedAt, pairAt}
 use Rattle.bk.specs.declared.Bk.{Bk}

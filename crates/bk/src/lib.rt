@@ -10,21 +10,21 @@ use fields::Cursor;
 use fields::Fault;
 use keybox::BoxRead;
 use keybox::Boxed;
+use keyfields::KeysRead;
 use numbers::Refusal;
 use offsets::Comparison;
+use offsetting::Offsetting;
+use offsetting::OffsettingRead;
 use pins::Reading;
 use responses::Answered;
 use responses::Asked;
 use responses::Payload;
+use sealed::Sealed;
+use sealed::SealedRead;
 use settings::Settings;
-use stages::KeysRead;
-use stages::Offsetting;
-use stages::OffsettingRead;
-use stages::Sealed;
-use stages::SealedRead;
-use stages::WeakStage;
 use uses::Use;
 use weak::Weak;
+use weaklist::WeakStage;
 
 // "ours is the semicolon"
 const WEAK_MARK: u8 = b';';
@@ -58,19 +58,19 @@ impl BkRead {
 pub fn read(restricted: bool, command: &[u8], start: Cursor) -> BkRead
     ensures { λ r. ⌜ r ≡ bkRead (bkFields restricted (now (command .entry)) (start .at)) ⌝ }
 {
-    let keyed = stages::read_keys(command, start, 1, Use::PIN_KEY, Use::PVK);
+    let keyed = keyfields::read_keys(command, start, 1, Use::PIN_KEY, Use::PVK);
     let KeysRead::Got(keys, at_block) = keyed else {
         return BkRead::Bad(keyed.fault());
     };
-    let blocked = stages::read_sealed(command, at_block, 4, restricted);
+    let blocked = sealed::read_sealed(command, at_block, 4, restricted);
     let SealedRead::Got(sealed, at_check) = blocked else {
         return BkRead::Bad(blocked.fault());
     };
-    let data = stages::read_offsetting(command, at_check, 6);
+    let data = offsetting::read_offsetting(command, at_check, 6);
     let OffsettingRead::Got(offsetting, at_weak) = data else {
         return BkRead::Bad(data.fault());
     };
-    let listed = stages::read_weak(command, at_weak, 10, WEAK_MARK);
+    let listed = weaklist::read_weak(command, at_weak, 10, WEAK_MARK);
     let WeakStage::Got(weak, at_end) = listed else {
         return BkRead::Bad(listed.fault());
     };

@@ -6,10 +6,13 @@ use mathlib.Core.Bool.{Bool}
 use Rattle.fields.specs.Fields.{Found, read, field, onward}
 use Rattle.uses.specs.declared.Use.{Use}
 use Rattle.weak.specs.declared.Weak.{Weak}
-use Rattle.stages.specs.Stages.{keys, sealed, offsetting, weak}
-use Rattle.stages.specs.declared.Keys.{Keys}
-use Rattle.stages.specs.declared.Sealed.{Sealed}
-use Rattle.stages.specs.declared.Offsetting.{Offsetting}
+use Rattle.keyfields.specs.KeyFields.{keys}
+use Rattle.sealed.specs.Sealed.{sealed}
+use Rattle.offsetting.specs.Offsetting.{offsetting}
+use Rattle.weaklist.specs.WeakList.{weak}
+use Rattle.keyfields.specs.declared.Keys.{Keys}
+use Rattle.sealed.specs.declared.Sealed.{Sealed}
+use Rattle.offsetting.specs.declared.Offsetting.{Offsetting}
 use Rattle.endings.specs.Endings.{end}
 use Rattle.texts.specs.Exact.{Writing, Exact}
 use Rattle.texts.specs.Joining.{joined, mapped}

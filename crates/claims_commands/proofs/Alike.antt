@@ -7,8 +7,8 @@ use mathlib.Core.List.{List}
 use lib.ListN.{getD, take}
 use lib.Seq.{take-take, getD-take}
 use Rattle.frame.specs.Frame.{opening}
-use Rattle.stages.specs.declared.Keys.{Keys}
-use Rattle.stages.specs.declared.Sealed.{Sealed}
+use Rattle.keyfields.specs.declared.Keys.{Keys}
+use Rattle.sealed.specs.declared.Sealed.{Sealed}
 use Rattle.bk.specs.Bk.{bkFields}
 use Rattle.bk.specs.declared.Bk.{Bk}
 use Rattle.claims_alike.proofs.Alike as any

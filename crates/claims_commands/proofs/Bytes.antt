@@ -14,8 +14,8 @@ use Rattle.numbers.specs.Promise.{Said}
 use Rattle.numbers.specs.declared.Refusal.{Refusal}
 use Rattle.settings.specs.declared.Settings.{Settings}
 use Rattle.frame.specs.Frame.{raised, inTwoDigits, opening}
-use Rattle.stages.specs.declared.Keys.{Keys}
-use Rattle.stages.specs.declared.Sealed.{Sealed}
+use Rattle.keyfields.specs.declared.Keys.{Keys}
+use Rattle.sealed.specs.declared.Sealed.{Sealed}
 use Rattle.bk.specs.Bk.{bkFields}
 use Rattle.bk.specs.declared.Bk.{Bk}
 use Rattle.fields.specs.Fields.{heard}

@@ -34,8 +34,13 @@ use Rattle.keys.specs.Keys.{keyType, hexKey, lettered, key}
 use Rattle.weak.specs.Weak.{weakField, entries, isOn}
 use Rattle.keybox.specs.KeyBox.{slices, parities, boxed}
 use Rattle.responses.specs.Responses.{responding}
-use Rattle.stages.proofs.Laws.{offsetting-held}
-use Rattle.stages.specs.Stages.{keys, formatField, sealed, validationField, offsetting, weak, accountIn, validationIn}
+use Rattle.offsetting.proofs.Laws.{offsetting-held}
+use Rattle.formatfield.specs.FormatField.{formatField}
+use Rattle.validationfield.specs.ValidationField.{validationField}
+use Rattle.keyfields.specs.KeyFields.{keys}
+use Rattle.sealed.specs.Sealed.{sealed}
+use Rattle.offsetting.specs.Offsetting.{offsetting, accountIn, validationIn}
+use Rattle.weaklist.specs.WeakList.{weak}
 use Rattle.endings.specs.Endings.{end}
 use Rattle.pairing.specs.Pairing.{askedAt}
 use Rattle.bk.specs.Bk.{bkFields, bkAsk, bkFinish, bkAnswer}
@@ -47,9 +52,9 @@ use Rattle.claims_offsets.specs.Figures.{blockP2, encipheredP9}
 use Rattle.claims_commands.specs.Cores.{commandOf, otherAccount, encipheredZeros, asks, answers, CommandsNotRefusing, CommandsNotFixed, CommandsNotSilent, PapersExchange, AnswerReadsTheFields}
 use Rattle.fields.proofs.Reading.{onward-read, read-once}
 use Rattle.uses.specs.Uses.{pinKey, pvk}
-use Rattle.stages.specs.declared.Keys.{Keys}
-use Rattle.stages.specs.declared.Sealed.{Sealed}
-use Rattle.stages.specs.declared.Offsetting.{Offsetting}
+use Rattle.keyfields.specs.declared.Keys.{Keys}
+use Rattle.sealed.specs.declared.Sealed.{Sealed}
+use Rattle.offsetting.specs.declared.Offsetting.{Offsetting}
 
 -- ---- what an answer must be where a call says this
 

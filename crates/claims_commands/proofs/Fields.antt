@@ -30,9 +30,14 @@ use Rattle.keys.specs.Keys.{type001, type002, typeFFF, onlyUOrT, onlyS, keyType
 use Rattle.keys.specs.declared.Letters.{Letters}
 use Rattle.weak.specs.Weak.{noneAt, weakField}
 use Rattle.weak.specs.Weak as list
-use Rattle.stages.specs.Stages.{allows, formatField, validationField, keys, sealed, offsetting, weak}
+use Rattle.formatfield.specs.FormatField.{allows, formatField}
+use Rattle.validationfield.specs.ValidationField.{validationField}
+use Rattle.keyfields.specs.KeyFields.{keys}
+use Rattle.sealed.specs.Sealed.{sealed}
+use Rattle.offsetting.specs.Offsetting.{offsetting}
+use Rattle.weaklist.specs.WeakList.{weak}
 use Rattle.endings.specs.Endings.{allAgree, lastId, closed, end}
-use Rattle.stages.specs.declared.Keys.{Keys}
+use Rattle.keyfields.specs.declared.Keys.{Keys}
 use Rattle.bk.specs.Bk.{weakMark, bkFields}
 use Rattle.claims_blocks.specs.Promises.{listed}
 use Rattle.claims_blocks.proofs.Judged.{Only, done-only, refused-only, test-only, then-only}

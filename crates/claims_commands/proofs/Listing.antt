@@ -8,8 +8,8 @@ use mathlib.Core.List.{List}
 use mathlib.Core.Bool.{Bool}
 use lib.ListN.{drop}
 use Rattle.uses.specs.Uses.{pinKey, pvk}
-use Rattle.stages.specs.declared.Keys.{Keys}
-use Rattle.stages.specs.declared.Sealed.{Sealed}
+use Rattle.keyfields.specs.declared.Keys.{Keys}
+use Rattle.sealed.specs.declared.Sealed.{Sealed}
 use Rattle.bk.specs.Bk.{weakMark, bkFields}
 use Rattle.bk.specs.declared.Bk.{Bk}
 use Rattle.texts.specs.Exact.{ExactAt}

@@ -37,7 +37,7 @@ use Rattle.weak.specs.Weak.{isOn, weakPins}
 use Rattle.keybox.specs.KeyBox.{slices, parities, boxed}
 use Rattle.responses.specs.Responses.{Payload, offset, payloadText, answerText, responding}
 use Rattle.responses.proofs.Laws.{Fine}
-use Rattle.stages.specs.Stages.{accountIn, tableIn, validationIn}
+use Rattle.offsetting.specs.Offsetting.{accountIn, tableIn, validationIn}
 use Rattle.bk.specs.Bk.{bkFields, bkAsk, bkFinish, bkAnswer}
 use Rattle.bk.specs.declared.Bk as fields
 use Rattle.commands.specs.Commands.{askBy, answerBy, opened, asking, asked, answered, commanded, silently}

@@ -16,8 +16,8 @@ use Rattle.offsettexts.specs.OffsetTexts.{offsetText}
 use Rattle.keybox.specs.KeyBox.{boxed}
 use Rattle.frame.specs.Frame.{opening}
 use Rattle.frame.specs.declared.Code.the-variants as code
-use Rattle.stages.specs.declared.Keys.{Keys}
-use Rattle.stages.specs.declared.Sealed.{Sealed}
+use Rattle.keyfields.specs.declared.Keys.{Keys}
+use Rattle.sealed.specs.declared.Sealed.{Sealed}
 use Rattle.fields.specs.Fields.{unpointed, heard}
 use Rattle.responses.specs.Responses.{offset, answerText, responding}
 use Rattle.bk.specs.Bk.{bkFields, bkFinish, bkAnswer}

@@ -29,7 +29,12 @@ use Rattle.keybox.specs.KeyBox.{slices, parities, boxed}
 use Rattle.responses.specs.Responses.{roomToAnswer}
 use Rattle.validation.specs.Validation.{shapeOf}
 use Rattle.validation.specs.declared.Shape.the-variants.{Template}
-use Rattle.stages.specs.Stages.{keys, formatField, sealed, validationField, offsetting, weak, accountIn, tableIn}
+use Rattle.formatfield.specs.FormatField.{formatField}
+use Rattle.validationfield.specs.ValidationField.{validationField}
+use Rattle.keyfields.specs.KeyFields.{keys}
+use Rattle.sealed.specs.Sealed.{sealed}
+use Rattle.offsetting.specs.Offsetting.{offsetting, accountIn, tableIn}
+use Rattle.weaklist.specs.WeakList.{weak}
 use Rattle.endings.specs.Endings.{end}
 use Rattle.bk.specs.Bk.{bkFields, bkFinish, bkAnswer}
 use Rattle.bk.specs.declared.Bk.{Bk}

@@ -5,7 +5,7 @@ use mathlib.Core.List.{List}
 use mathlib.Core.Bool.{Bool}
 use lib.ListN.{length, drop}
 use Rattle.weak.specs.Weak.{weakPins}
-use Rattle.stages.specs.Stages.{part}
+use Rattle.offsetting.specs.Offsetting.{part}
 use Rattle.bk.specs.Bk.{bkFields}
 use Rattle.bk.specs.declared.Bk.{Bk}
 use Rattle.texts.specs.Texts.{optionalText, trailerText}

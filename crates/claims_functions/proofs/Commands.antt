@@ -1,6 +1,6 @@
 -- One answer to every promise of the crates of commands: each function cites the law of its shape.
 -- Assumes nothing.
-use Rattle.claims_functions.specs.Commands.{KeyBoxSettled, ResponsesSettled, FrameSettled, FieldsSettled, LmkSettled, UsesSettled, KeyLengthsSettled, KeyBlocksSettled, KeysSettled, WeakSettled, StagesSettled, EndingsSettled, PairingSettled, BkSettled, CommandsSettled}
+use Rattle.claims_functions.specs.Commands.{KeyBoxSettled, ResponsesSettled, FrameSettled, FieldsSettled, LmkSettled, UsesSettled, KeyLengthsSettled, KeyBlocksSettled, KeysSettled, WeakSettled, FormatFieldSettled, ValidationFieldSettled, KeyFieldsSettled, SealedSettled, OffsettingSettled, WeakListSettled, EndingsSettled, PairingSettled, BkSettled, CommandsSettled}
 use Rattle.claims_functions.proofs.Once.{settled, left, answered}
 
 pub key-box-once : KeyBoxSettled
@@ -67,16 +67,36 @@ weak-once = record {
   is-weak = λ κs a r r′ ends ends′. settled;
 }
 
-pub stages-once : StagesSettled
-stages-once = record {
-  KeysRead·fault = λ κs a r r′ ends ends′. settled;
-  SealedRead·fault = λ κs a r r′ ends ends′. settled;
-  OffsettingRead·fault = λ κs a r r′ ends ends′. settled;
-  WeakStage·fault = λ κs a r r′ ends ends′. settled;
+pub format-field-once : FormatFieldSettled
+format-field-once = record {
   FormatRead·refusal = λ κs a r r′ ends ends′. settled;
+  format-field = λ κs a r r′ ends ends′. settled;
+}
+
+pub validation-field-once : ValidationFieldSettled
+validation-field-once = record { validation-field = λ κs a r r′ ends ends′. settled }
+
+pub key-fields-once : KeyFieldsSettled
+key-fields-once = record {
+  KeysRead·fault = λ κs a r r′ ends ends′. settled;
   read-keys = λ κs a r r′ ends ends′. settled;
+}
+
+pub sealed-once : SealedSettled
+sealed-once = record {
+  SealedRead·fault = λ κs a r r′ ends ends′. settled;
   read-sealed = λ κs a r r′ ends ends′. settled;
+}
+
+pub offsetting-once : OffsettingSettled
+offsetting-once = record {
+  OffsettingRead·fault = λ κs a r r′ ends ends′. settled;
   read-offsetting = λ κs a r r′ ends ends′. settled;
+}
+
+pub weak-list-once : WeakListSettled
+weak-list-once = record {
+  WeakStage·fault = λ κs a r r′ ends ends′. settled;
   read-weak = λ κs a r r′ ends ends′. settled;
 }
 

@@ -1,5 +1,5 @@
 -- One answer to every promise of the crates of commands: key box, responses, frame, fields, LMK ids, uses, key blocks and their lengths, keys,
--- weak lists, stages, endings, PIN with natural PIN, BK and the two calls.
+-- weak lists, formats, validation data, the stages, endings, PIN with natural PIN, BK and the two calls.
 -- Each line is over the contract of the function of its name, as the checker reads it for a caller. No line needs what a function
 -- requires: outside it a contract promises nothing.
 use Rattle.keybox.proofs as KeyBox
@@ -12,7 +12,12 @@ use Rattle.keylengths.proofs as KeyLengths
 use Rattle.keyblocks.proofs as KeyBlocks
 use Rattle.keys.proofs as Keys
 use Rattle.weak.proofs as Weak
-use Rattle.stages.proofs as Stages
+use Rattle.formatfield.proofs as FormatField
+use Rattle.validationfield.proofs as ValidationField
+use Rattle.keyfields.proofs as KeyFields
+use Rattle.sealed.proofs as Sealed
+use Rattle.offsetting.proofs as Offsetting
+use Rattle.weaklist.proofs as WeakList
 use Rattle.endings.proofs as Endings
 use Rattle.pairing.proofs as Pairing
 use Rattle.bk.proofs as Bk
@@ -79,17 +84,34 @@ pub record WeakSettled : Type 0 where
   pub weak-field : Settled Weak.weak_field.ended Weak.weak_field.Reads.Learnt
   pub is-weak : Settled Weak.is_weak.ended Weak.is_weak.Reads.Learnt
 
--- every public function of stages
-pub record StagesSettled : Type 0 where
-  pub KeysRead·fault : Settled Stages.KeysRead.fault.ended Stages.KeysRead.fault.Reads.Learnt
-  pub SealedRead·fault : Settled Stages.SealedRead.fault.ended Stages.SealedRead.fault.Reads.Learnt
-  pub OffsettingRead·fault : Settled Stages.OffsettingRead.fault.ended Stages.OffsettingRead.fault.Reads.Learnt
-  pub WeakStage·fault : Settled Stages.WeakStage.fault.ended Stages.WeakStage.fault.Reads.Learnt
-  pub FormatRead·refusal : Settled Stages.FormatRead.refusal.ended Stages.FormatRead.refusal.Reads.Learnt
-  pub read-keys : Settled Stages.read_keys.ended Stages.read_keys.Reads.Learnt
-  pub read-sealed : Settled Stages.read_sealed.ended Stages.read_sealed.Reads.Learnt
-  pub read-offsetting : Settled Stages.read_offsetting.ended Stages.read_offsetting.Reads.Learnt
-  pub read-weak : Settled Stages.read_weak.ended Stages.read_weak.Reads.Learnt
+-- every public function of formatfield
+pub record FormatFieldSettled : Type 0 where
+  pub FormatRead·refusal : Settled FormatField.FormatRead.refusal.ended FormatField.FormatRead.refusal.Reads.Learnt
+  pub format-field : Settled FormatField.format_field.ended FormatField.format_field.Reads.Learnt
+
+-- every public function of validationfield
+pub record ValidationFieldSettled : Type 0 where
+  pub validation-field : Settled ValidationField.validation_field.ended ValidationField.validation_field.Reads.Learnt
+
+-- every public function of keyfields
+pub record KeyFieldsSettled : Type 0 where
+  pub KeysRead·fault : Settled KeyFields.KeysRead.fault.ended KeyFields.KeysRead.fault.Reads.Learnt
+  pub read-keys : Settled KeyFields.read_keys.ended KeyFields.read_keys.Reads.Learnt
+
+-- every public function of sealed
+pub record SealedSettled : Type 0 where
+  pub SealedRead·fault : Settled Sealed.SealedRead.fault.ended Sealed.SealedRead.fault.Reads.Learnt
+  pub read-sealed : Settled Sealed.read_sealed.ended Sealed.read_sealed.Reads.Learnt
+
+-- every public function of offsetting
+pub record OffsettingSettled : Type 0 where
+  pub OffsettingRead·fault : Settled Offsetting.OffsettingRead.fault.ended Offsetting.OffsettingRead.fault.Reads.Learnt
+  pub read-offsetting : Settled Offsetting.read_offsetting.ended Offsetting.read_offsetting.Reads.Learnt
+
+-- every public function of weaklist
+pub record WeakListSettled : Type 0 where
+  pub WeakStage·fault : Settled WeakList.WeakStage.fault.ended WeakList.WeakStage.fault.Reads.Learnt
+  pub read-weak : Settled WeakList.read_weak.ended WeakList.read_weak.Reads.Learnt
 
 -- every public function of endings
 pub record EndingsSettled : Type 0 where

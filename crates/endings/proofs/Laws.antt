@@ -18,7 +18,7 @@ use Rattle.lmk.proofs.Laws.{lmk-onward}
 use Rattle.endings.specs.Answers.{endOf}
 use Rattle.endings.specs.declared.End.the-variants.{At, Bad}
 use Rattle.endings.specs.Endings.{closed, end, allAgree, lastId}
-use Rattle.stages.specs.declared.Keys.{Keys}
+use Rattle.keyfields.specs.declared.Keys.{Keys}
 
 -- ---- behind the code's answer: the trailer's place, or the fault
 

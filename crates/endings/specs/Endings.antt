@@ -9,7 +9,7 @@ use Rattle.fields.specs.Fields.{Stage, read, faulty, field, trailer}
 use Rattle.fields.specs.declared.Fault.{Fault}
 use Rattle.lmk.specs.Lmk.{lmkField, agree, present}
 use Rattle.lmk.specs.declared.Lmk.{Lmk}
-use Rattle.stages.specs.declared.Keys.{Keys}
+use Rattle.keyfields.specs.declared.Keys.{Keys}
 
 -- "LMK ids present in fields 2, 3 and 11 must all agree"
 abbrev pub allAgree : Keys → Lmk → Bool

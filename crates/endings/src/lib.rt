@@ -6,10 +6,10 @@ ghost use Rattle.endings.specs.Answers.{endOf, endFault};
 use fields::Cursor;
 use fields::Fault;
 use fields::Value;
+use keyfields::Keys;
 use lmk::Keyed;
 use lmk::Lmk;
 use numbers::Refusal;
-use stages::Keys;
 
 // Where the trailer's mark stands, or the command's end where there is none.
 pub enum End {

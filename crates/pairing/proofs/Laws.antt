@@ -27,10 +27,10 @@ use Rattle.offsets.specs.declared.Compared.{Compared}
 use Rattle.offsets.specs.declared.Comparison.the-variants as comparison
 use Rattle.offsets.proofs.Laws.{with-natural-fit, with-natural-compared}
 use Rattle.keybox.specs.declared.Boxed.{Boxed}
-use Rattle.stages.specs.Stages.{part, accountIn, tableIn, validationIn}
-use Rattle.stages.specs.declared.Sealed.{Sealed}
-use Rattle.stages.specs.declared.Offsetting.{Offsetting}
-use Rattle.stages.proofs.Laws.{values-length, values-below, values-row}
+use Rattle.offsetting.specs.Offsetting.{part, accountIn, tableIn, validationIn}
+use Rattle.sealed.specs.declared.Sealed.{Sealed}
+use Rattle.offsetting.specs.declared.Offsetting.{Offsetting}
+use Rattle.offsetting.proofs.Laws.{values-length, values-below, values-row}
 use Rattle.pairing.specs.Pairing.{askedAt, pairAt}
 use Rattle.pairing.specs.Answers.{Placed, boxRows}
 

@@ -9,8 +9,8 @@ use Rattle.alphabet.specs.Alphabet.{allOf}
 use Rattle.alphabet.specs.declared.Class.the-variants.{Digit}
 use Rattle.validation.specs.Validation.{shapeOf, shapeWidth}
 use Rattle.keybox.specs.declared.Boxed.{Boxed}
-use Rattle.stages.specs.Stages.{part, validationIn}
-use Rattle.stages.specs.declared.Offsetting.{Offsetting}
+use Rattle.offsetting.specs.Offsetting.{part, validationIn}
+use Rattle.offsetting.specs.declared.Offsetting.{Offsetting}
 
 -- the places lie in the command, account and table have digits, the shape is that of the validation data, and the check length is one
 pub record Placed (s : List ℕ) (o : Offsetting) : Type 0 where

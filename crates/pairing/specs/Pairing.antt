@@ -5,9 +5,9 @@ use Rattle.nibbles.specs.Nibbles.{packs}
 use Rattle.numbers.specs.Numbers.{Outcome, done, andThen}
 use Rattle.validation.specs.Validation.{validationRow}
 use Rattle.offsets.specs.Offsets.{pinWithNatural}
-use Rattle.stages.specs.Stages.{accountIn, tableIn, validationIn}
-use Rattle.stages.specs.declared.Sealed.{Sealed}
-use Rattle.stages.specs.declared.Offsetting.{Offsetting}
+use Rattle.offsetting.specs.Offsetting.{accountIn, tableIn, validationIn}
+use Rattle.sealed.specs.declared.Sealed.{Sealed}
+use Rattle.offsetting.specs.declared.Offsetting.{Offsetting}
 
 -- "the 8-byte block that the key box must encipher under the PVK"
 abbrev pub askedAt : List ℕ → Offsetting → Outcome (List ℕ)

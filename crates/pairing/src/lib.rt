@@ -3,15 +3,15 @@ ghost use mathlib.Core.Path.{_≡_};
 ghost use Rattle.nibbles.specs.Nibbles.{word};
 ghost use Rattle.blocks.specs.Answers.{blockOf};
 ghost use Rattle.offsets.specs.Answers.{comparisonOf};
-ghost use Rattle.stages.specs.Stages.{accountIn};
+ghost use Rattle.offsetting.specs.Offsetting.{accountIn};
 ghost use Rattle.pairing.specs.Pairing.{askedAt, pairAt};
 ghost use Rattle.pairing.specs.Answers.{Placed, boxRows};
 use keybox::Boxed;
 use offsets::Comparison;
 use offsets::Rows;
+use offsetting::Offsetting;
 use pins::Row;
-use stages::Offsetting;
-use stages::Sealed;
+use sealed::Sealed;
 
 // The account's digits at their place.
 fn account_at(command: &[u8], inputs: Offsetting) -> u64

@@ -18,7 +18,7 @@ use Rattle.formats.specs.declared.Format.the-variants.{F01, F03, F05, F34, F35,
 use Rattle.formats.specs.declared.Code.{Code}
 use Rattle.formats.specs.declared.Code.the-variants.{Built, Known, Unknown}
 use Rattle.fields.specs.Fields.{number}
-use Rattle.stages.specs.Stages.{allows, formatField}
+use Rattle.formatfield.specs.FormatField.{allows, formatField}
 use Rattle.texts.specs.Texts.{asTwoDigits}
 use Rattle.texts.specs.Exact.{Opens, Exact}
 use Rattle.texts.proofs.Closing.{apart-of}

@@ -23,7 +23,7 @@ use Rattle.validation.specs.Validation.{hexEnd, isTemplate, isWhole, widthOf, s
 use Rattle.validation.proofs.Laws.{led-by-p}
 use Rattle.validation.specs.declared.Shape.{Shape}
 use Rattle.validation.specs.declared.Shape.the-variants.{Template, Whole, Neither}
-use Rattle.stages.specs.Stages.{validationField}
+use Rattle.validationfield.specs.ValidationField.{validationField}
 use Rattle.texts.specs.Exact.{Opens, Exact}
 use Rattle.texts.proofs.Runs.{all-append, all-both, fronts}
 use Rattle.texts.proofs.Closing.{apart-of}

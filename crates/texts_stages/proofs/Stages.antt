@@ -23,10 +23,15 @@ use Rattle.lmk.specs.declared.Lmk.{Lmk}
 use Rattle.uses.specs.declared.Use.{Use}
 use Rattle.keys.specs.Keys.{keyType, key}
 use Rattle.weak.specs.Weak.{weakField}
-use Rattle.stages.specs.Stages.{keys, sealed, offsetting, weak, formatField, validationField}
-use Rattle.stages.specs.declared.Keys.{Keys}
-use Rattle.stages.specs.declared.Sealed.{Sealed}
-use Rattle.stages.specs.declared.Offsetting.{Offsetting}
+use Rattle.formatfield.specs.FormatField.{formatField}
+use Rattle.validationfield.specs.ValidationField.{validationField}
+use Rattle.keyfields.specs.KeyFields.{keys}
+use Rattle.sealed.specs.Sealed.{sealed}
+use Rattle.offsetting.specs.Offsetting.{offsetting}
+use Rattle.weaklist.specs.WeakList.{weak}
+use Rattle.keyfields.specs.declared.Keys.{Keys}
+use Rattle.sealed.specs.declared.Sealed.{Sealed}
+use Rattle.offsetting.specs.declared.Offsetting.{Offsetting}
 use Rattle.endings.specs.Endings.{allAgree, lastId, closed, end}
 use Rattle.endings.proofs.Laws.{closed-whole}
 use Rattle.texts.specs.Texts.{asTwoDigits, Optional, absent, present, WherePresent, IsTrailer, trailerText}

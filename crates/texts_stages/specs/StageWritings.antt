@@ -5,10 +5,10 @@ use mathlib.Core.List.{List, [], _++_}
 use mathlib.Core.Bool.{Bool}
 use lib.ListN.{length}
 use Rattle.uses.specs.declared.Use.{Use}
-use Rattle.stages.specs.Stages.{part, validationIn}
-use Rattle.stages.specs.declared.Keys.{Keys}
-use Rattle.stages.specs.declared.Sealed.{Sealed}
-use Rattle.stages.specs.declared.Offsetting.{Offsetting}
+use Rattle.offsetting.specs.Offsetting.{part, validationIn}
+use Rattle.keyfields.specs.declared.Keys.{Keys}
+use Rattle.sealed.specs.declared.Sealed.{Sealed}
+use Rattle.offsetting.specs.declared.Offsetting.{Offsetting}
 use Rattle.texts.specs.Texts.{asTwoDigits}
 use Rattle.texts.specs.Exact.{Writing}
 use Rattle.texts_keys.specs.KeyTexts.{typeText, keyText, ownIds, AllSame, idText}

@@ -2,7 +2,10 @@
 -- Assumes nothing.
 use mathlib.Core.Path.{sym, ap, _∙_}
 use borrow.Author.Needs.{needs}
-use Rattle.stages.specs.Answers.{keysFault, sealedFault, offsettingFault, weakFault}
+use Rattle.keyfields.specs.Answers.{keysFault}
+use Rattle.sealed.specs.Answers.{sealedFault}
+use Rattle.offsetting.specs.Answers.{offsettingFault}
+use Rattle.weaklist.specs.Answers.{weakFault}
 use Rattle.endings.specs.Answers.{endFault}
 use Rattle.bk.specs.Answers.{bkRead}
 use Rattle.bk.specs.declared.BkRead.the-variants.{Bad}

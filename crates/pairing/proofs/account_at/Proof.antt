@@ -6,7 +6,7 @@ use mathlib.Core.Path.{refl, ap, _∙_}
 use borrow.Author.Needs.{needs}
 use Rattle.nibbles.specs.Nibbles.{word}
 use Rattle.alphabet.specs.Alphabet.{valueOf}
-use Rattle.stages.specs.Stages.{part}
+use Rattle.offsetting.specs.Offsetting.{part}
 use Rattle.pairing.proofs.Laws.{cut, account-digits}
 use Rattle.pairing.proofs.account_at.Statement.{statement}
 use Rattle.pairing.proofs.account_at.Tie as tie

@@ -8,8 +8,8 @@ use Rattle.alphabet.specs.Alphabet.{valueOf}
 use Rattle.offsets.specs.Offsets.{pinWithNatural}
 use Rattle.offsets.specs.Answers.{comparisonOf, rowsIn}
 use Rattle.offsets.specs.declared.Rows.{Rows}
-use Rattle.stages.specs.Stages.{part}
-use Rattle.stages.proofs.Laws.{values-under}
+use Rattle.offsetting.specs.Offsetting.{part}
+use Rattle.offsetting.proofs.Laws.{values-under}
 use Rattle.pairing.proofs.Laws.{cut, table-decimal, pair-found}
 use Rattle.pairing.proofs.pair.Statement.{statement}
 use Rattle.pairing.proofs.pair.Tie as tie

@@ -1,0 +1,2 @@
+pub mod FormatField
+pub mod Answers

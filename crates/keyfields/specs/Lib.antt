@@ -1,0 +1,2 @@
+pub mod KeyFields
+pub mod Answers

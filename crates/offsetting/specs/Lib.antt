@@ -1,0 +1,2 @@
+pub mod Offsetting
+pub mod Answers

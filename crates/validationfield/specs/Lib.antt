@@ -1,0 +1,2 @@
+pub mod ValidationField
+pub mod Answers

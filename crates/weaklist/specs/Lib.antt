@@ -1,0 +1,2 @@
+pub mod WeakList
+pub mod Answers
