@@ -13,7 +13,9 @@ use Rattle.validation.specs.Validation.{shapeOf, validationRow, validationBlock
 use Rattle.naturals.specs.Naturals.{naturalPin}
 use Rattle.ibm3624.specs.Ibm3624.{differences}
 use Rattle.offsets.specs.Offsets.{offsetJudged, digitsJudged}
-use Rattle.pvv.specs.Pvv.{those, pvvOf, inputRow, pvvGiven, pvvInput, pvvMade}
+use Rattle.pvvdigits.specs.PvvDigits.{those, pvvOf}
+use Rattle.pvvinput.specs.PvvInput.{inputRow}
+use Rattle.pvv.specs.Pvv.{pvvGiven, pvvInput, pvvMade}
 use Rattle.claims_figures.specs.Figures.{AsPrinted, figures, AllFigures}
 
 -- the first n of a list, one by one

@@ -1,6 +1,6 @@
 -- One answer to every promise of the crates of PIN blocks: each function cites the law of its shape.
 -- Assumes nothing.
-use Rattle.claims_functions.specs.Blocks.{BlocksSettled, TranslationSettled, ValidationSettled, NaturalsSettled, Ibm3624Settled, OffsetTextsSettled, PvvSettled, OffsetsSettled, VerdictsSettled}
+use Rattle.claims_functions.specs.Blocks.{BlocksSettled, TranslationSettled, ValidationSettled, NaturalsSettled, Ibm3624Settled, OffsetTextsSettled, PvvDigitsSettled, PvvInputSettled, PvvSettled, OffsetsSettled, VerdictsSettled}
 use Rattle.claims_functions.proofs.Once.{settled, left, answered, verdict}
 
 pub blocks-once : BlocksSettled
@@ -45,6 +45,18 @@ pub offset-texts-once : OffsetTextsSettled
 offset-texts-once = record {
   put-offset = λ κs a r r′ ends ends′. left 2;
   presented = λ κs a r r′ ends ends′. settled;
+}
+
+pub pvvdigits-once : PvvDigitsSettled
+pvvdigits-once = record {
+  digits-of = λ κs a r r′ ends ends′. settled;
+  compared = λ κs a r r′ ends ends′. settled;
+}
+
+pub pvvinput-once : PvvInputSettled
+pvvinput-once = record {
+  key-index = λ κs a r r′ ends ends′. settled;
+  input-row = λ κs a r r′ ends ends′. settled;
 }
 
 pub pvv-once : PvvSettled

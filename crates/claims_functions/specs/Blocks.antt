@@ -7,6 +7,8 @@ use Rattle.validation.proofs as Validation
 use Rattle.naturals.proofs as Naturals
 use Rattle.ibm3624.proofs as Ibm3624
 use Rattle.offsettexts.proofs as OffsetTexts
+use Rattle.pvvdigits.proofs as PvvDigits
+use Rattle.pvvinput.proofs as PvvInput
 use Rattle.pvv.proofs as Pvv
 use Rattle.offsets.proofs as Offsets
 use Rattle.verdicts.proofs as Verdicts
@@ -49,6 +51,16 @@ pub record Ibm3624Settled : Type 0 where
 pub record OffsetTextsSettled : Type 0 where
   pub put-offset : Settled OffsetTexts.put_offset.ended OffsetTexts.put_offset.Reads.Learnt
   pub presented : Settled OffsetTexts.presented.ended OffsetTexts.presented.Reads.Learnt
+
+-- every public function of pvvdigits
+pub record PvvDigitsSettled : Type 0 where
+  pub digits-of : Settled PvvDigits.digits_of.ended PvvDigits.digits_of.Reads.Learnt
+  pub compared : Settled PvvDigits.compared.ended PvvDigits.compared.Reads.Learnt
+
+-- every public function of pvvinput
+pub record PvvInputSettled : Type 0 where
+  pub key-index : Settled PvvInput.key_index.ended PvvInput.key_index.Reads.Learnt
+  pub input-row : Settled PvvInput.input_row.ended PvvInput.input_row.Reads.Learnt
 
 -- every public function of pvv
 pub record PvvSettled : Type 0 where

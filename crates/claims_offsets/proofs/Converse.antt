@@ -26,7 +26,8 @@ use Rattle.verdicts.specs.Verdicts.{offsetVerdict}
 use Rattle.offsets.proofs.Laws.{offset-parts, digits-parts, differences-parts}
 use Rattle.verdicts.proofs.Laws.{verdict-done}
 use Rattle.pvv.proofs.Laws.{pvv-parts}
-use Rattle.pvv.specs.Pvv.{pvvOf, presented, pvvGiven, pinRead, pvvMade}
+use Rattle.pvvdigits.specs.PvvDigits.{pvvOf}
+use Rattle.pvv.specs.Pvv.{presented, pvvGiven, pinRead, pvvMade}
 use Rattle.claims_offsets.specs.Claims.{VerdictIsOffset, PvvVerdictIsPvv, OffsetIsReduced}
 use Rattle.claims_offsets.proofs.Texts.{offset-verifies}
 

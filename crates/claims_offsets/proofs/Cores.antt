@@ -13,7 +13,8 @@ use Rattle.formats.specs.Formats.{codeOf}
 use Rattle.blocks.specs.Blocks.{contents, readRow}
 use Rattle.ibm3624.specs.Ibm3624.{differences}
 use Rattle.offsets.specs.Offsets.{offsetJudged, offsetMade}
-use Rattle.pvv.specs.Pvv.{those, pvvOf, pvvMade}
+use Rattle.pvvdigits.specs.PvvDigits.{those, pvvOf}
+use Rattle.pvv.specs.Pvv.{pvvMade}
 use Rattle.claims_blocks.specs.Figures.{usualAccount}
 use Rattle.claims_blocks.proofs.Promises.{only-00, apart}
 use Rattle.claims_offsets.specs.Figures.{blockP2, tableP9, encipheredP9}

@@ -27,8 +27,10 @@ use Rattle.naturals.proofs.Laws.{natural-done, natural-long}
 use Rattle.offsettexts.proofs.Laws.{text-length}
 use Rattle.offsets.specs.Offsets.{given, pinWithNatural, pinAndNatural, digitsGiven, offsetFor, offsetJudged, digitsJudged, offsetMade, offsetOfDigits, differencesOf}
 use Rattle.offsets.proofs.Laws.{offset-parts, digits-parts, differences-parts, digits-alike, covers-within}
-use Rattle.pvv.specs.Pvv.{pvvOf, pvvInput, pvvMade}
-use Rattle.pvv.proofs.Laws.{pvv-length, call-input}
+use Rattle.pvvdigits.specs.PvvDigits.{pvvOf}
+use Rattle.pvv.specs.Pvv.{pvvInput, pvvMade}
+use Rattle.pvvdigits.proofs.Laws.{pvv-length}
+use Rattle.pvv.proofs.Laws.{call-input}
 use Rattle.claims_blocks.specs.Claims.{IsBytes}
 use Rattle.claims_offsets.specs.Numbers.{FourToTwelve, PinLength}
 

@@ -26,7 +26,8 @@ use Rattle.naturals.specs.Naturals.{tableSized, tableOf, naturalOf, naturalPin}
 use Rattle.offsets.specs.Offsets.{given, offsetMade, offsetOfDigits, differencesOf}
 use Rattle.verdicts.specs.Verdicts.{offsetVerdict}
 use Rattle.verdicts.proofs.Laws as verdicts
-use Rattle.pvv.specs.Pvv.{pvvOf, pvvInput, pvvMade, pvvVerdict}
+use Rattle.pvvdigits.specs.PvvDigits.{pvvOf}
+use Rattle.pvv.specs.Pvv.{pvvInput, pvvMade, pvvVerdict}
 use Rattle.pvv.proofs.Laws as pvvs
 use Rattle.claims_blocks.specs.Promises.{listed, OfCalls}
 use Rattle.claims_blocks.proofs.Judged.{Only, done-only, then-only}

@@ -31,7 +31,9 @@ use Rattle.offsets.proofs.Laws.{offset-parts, digits-parts, differences-parts}
 use Rattle.verdicts.specs.Verdicts.{offsetVerdict}
 use Rattle.verdicts.proofs.Laws.{verdict-parts}
 use Rattle.pvv.proofs.Laws.{input-parts, pvv-parts}
-use Rattle.pvv.specs.Pvv.{pvvOf, inputRow, keyIndex, presented, pvvGiven, pinRead, pvvInput, pvvVerdict}
+use Rattle.pvvdigits.specs.PvvDigits.{pvvOf}
+use Rattle.pvvinput.specs.PvvInput.{inputRow, keyIndex}
+use Rattle.pvv.specs.Pvv.{presented, pvvGiven, pinRead, pvvInput, pvvVerdict}
 use Rattle.claims_blocks.proofs.Judged.{Only, Fault, done-only, refused-only, test-only, then-only}
 use Rattle.claims_blocks.proofs.Trips.{read-faults}
 

@@ -16,7 +16,8 @@ use Rattle.offsettexts.specs.OffsetTexts.{offsetPresented}
 use Rattle.offsets.specs.Offsets.{given, pinAndNatural}
 use Rattle.verdicts.specs.Verdicts.{offsetVerdict}
 use Rattle.verdicts.proofs.Laws.{verdict-parts}
-use Rattle.pvv.specs.Pvv.{pvvOf, pvvVerdict}
+use Rattle.pvvdigits.specs.PvvDigits.{pvvOf}
+use Rattle.pvv.specs.Pvv.{pvvVerdict}
 use Rattle.claims_offsets.specs.Claims.{Exactly, VerdictExactly, PvvVerdictExactly}
 
 -- a comparison of two rows is 00 exactly where they are the same

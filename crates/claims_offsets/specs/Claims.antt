@@ -16,7 +16,9 @@ use Rattle.ibm3624.specs.Ibm3624.{covers, offsetOf, difference, moduloTen}
 use Rattle.offsettexts.specs.OffsetTexts.{offsetText, offsetPresented}
 use Rattle.offsets.specs.Offsets.{given, pinAndNatural, offsetMade, offsetOfDigits, digitsJudged, differencesOf}
 use Rattle.verdicts.specs.Verdicts.{offsetVerdict}
-use Rattle.pvv.specs.Pvv.{pvvOf, keyIndex, presented, pvvMade, pvvVerdict}
+use Rattle.pvvdigits.specs.PvvDigits.{pvvOf}
+use Rattle.pvvinput.specs.PvvInput.{keyIndex}
+use Rattle.pvv.specs.Pvv.{presented, pvvMade, pvvVerdict}
 use Rattle.claims_blocks.specs.Claims.{IsBytes}
 
 -- an offset that was made verifies, by the same inputs

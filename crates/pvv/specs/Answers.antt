@@ -1,11 +1,10 @@
--- What the calls were given, and what was taken of a row so far, as values of the code.
-use Prim.Native.Nat.{ℕ, _^_, _≤_, _<_}
+-- What the calls were given, as values of the code.
+use Prim.Native.Nat.{ℕ}
 use mathlib.Core.List.{List}
 use Rattle.nibbles.specs.Nibbles.{word, row}
 use Rattle.numbers.specs.Numbers.{Outcome, done, refused}
 use Rattle.numbers.specs.declared.Refusal.{Refusal}
 use Rattle.numbers.specs.declared.Refusal.the-variants.{Field15}
-use Rattle.pins.specs.declared.Pin.{Pin}
 use Rattle.pvv.specs.declared.Rows.{Rows}
 use Rattle.pvv.specs.declared.Given.{Given}
 use Rattle.pvv.specs.declared.Given.the-variants as fields
@@ -27,8 +26,3 @@ fieldsRefusal (fields.Bad q) = q
 -- the rows that such a value holds, and its index
 abbrev pub rowsIn : Rows → List ℕ × List ℕ × ℕ
 rowsIn r = (row 16 (r .block), row 12 (r .account), r .index)
-
--- at most four nibbles, and the word holds them and nothing behind them
-pub record Taken (p : Pin) : Type 0 where
-  pub short : p .length ≤ 4
-  pub clean : p .digits < 16 ^ (p .length)

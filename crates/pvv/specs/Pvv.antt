@@ -1,35 +1,19 @@
--- "Offset, verdict and PVV": the ABA PVV, its input and its verdict.
-use Prim.Native.Nat.{ℕ, _-_}
-use mathlib.Core.List.{List, [], _∷_, _++_, map}
-use mathlib.Core.Bool.{Bool, _&&_, cond}
-use lib.ListN.{length, take}
+-- "Offset, verdict and PVV": the calls of the ABA PVV.
+use Prim.Native.Nat.{ℕ}
+use mathlib.Core.List.{List, map}
+use mathlib.Core.Bool.{_&&_}
+use lib.ListN.{length}
 use lib.Dec.{leb, eqb}
-use Rattle.nibbles.specs.Nibbles.{packs, within, same}
+use Rattle.nibbles.specs.Nibbles.{packs, same}
 use Rattle.alphabet.specs.Alphabet.{allOf, valueOf, characters}
 use Rattle.alphabet.specs.declared.Class.the-variants.{Digit}
 use Rattle.numbers.specs.Numbers.{Outcome, done, andThen, unless}
 use Rattle.numbers.specs.declared.Refusal.the-variants.{Field15, Room901}
 use Rattle.formats.specs.Formats.{codeOf, formatOf, blockWidth}
-use Rattle.pins.specs.Pins.{digit, lastOf, accountOf, accountField, sized, verdict}
+use Rattle.pins.specs.Pins.{accountOf, accountField, sized, verdict}
 use Rattle.blocks.specs.Blocks.{readRow}
-
--- those that pass the test, in their order
-unfoldable pub those : (ℕ → Bool) → List ℕ → List ℕ
-those p [] = []
-those p (x ∷ xs) = cond (p x) (x ∷ those p xs) (those p xs)
-
--- "the first four nibbles 0 to 9 of the enciphered input, from the left; if fewer, the nibbles A to F, again from the left and less
--- ten, complete it"
-unfoldable pub pvvOf : List ℕ → List ℕ
-pvvOf ns = take 4 (those digit ns ++ map (λ n. n - 10) (those (within 10 15) ns))
-
--- "the last 11 account digits, the key index (0 to 6, else 15) and the first four PIN digits": the digits, where the index is judged
-unfoldable pub inputRow : List ℕ → ℕ → List ℕ → List ℕ
-inputRow account index pin = lastOf 11 account ++ (index ∷ take 4 pin)
-
--- "the key index (0 to 6, else 15)"
-abbrev pub keyIndex : ℕ → Outcome ℕ
-keyIndex index = unless Field15 (leb index 6) index
+use Rattle.pvvdigits.specs.PvvDigits.{pvvOf}
+use Rattle.pvvinput.specs.PvvInput.{inputRow, keyIndex}
 
 -- "a presented PVV that is not four digits is 15"
 abbrev pub presented : List ℕ → Outcome (List ℕ)

@@ -1,21 +1,18 @@
-// The ABA PVV: the input that is enciphered, the four digits of the enciphered input, and the verdict on digits that are presented.
+// The calls of the ABA PVV: the input that is enciphered, the PVV of the enciphered input, and the verdict on a PVV that is presented.
 ghost use mathlib.Core.Path.{_≡_};
-ghost use mathlib.Core.List.{[], _∷_, _++_, map};
-ghost use Prim.Native.Nat.{_-_, _^_, _<_, _≤_};
-ghost use lib.ListN.{length, take};
-ghost use lib.Dec.{leb};
-ghost use Rattle.nibbles.specs.Nibbles.{word, row, within, same};
+ghost use mathlib.Core.List.{[]};
+ghost use Prim.Native.Nat.{_^_, _<_};
+ghost use lib.ListN.{length};
+ghost use Rattle.nibbles.specs.Nibbles.{row};
 ghost use Rattle.numbers.specs.Promise.{Does, quietly};
-ghost use Rattle.pins.specs.Pins.{verdict};
-ghost use Rattle.pins.specs.Answers.{pinOf, readingOf, rowOf, verdictOf};
-ghost use Rattle.blocks.specs.Answers.{blockOf, digitsOf};
-ghost use Rattle.pvv.specs.Pvv.{those, pvvOf, inputRow, presented, pvvGiven, pinRead, pvvInput, pvvMade, pvvVerdict};
-ghost use Rattle.pvv.specs.Answers.{givenOf, fieldsRefusal, rowsIn, Taken};
+ghost use Rattle.pins.specs.Answers.{readingOf, rowOf, verdictOf};
+ghost use Rattle.blocks.specs.Answers.{blockOf};
+ghost use Rattle.pvv.specs.Pvv.{presented, pvvGiven, pinRead, pvvInput, pvvMade, pvvVerdict};
+ghost use Rattle.pvv.specs.Answers.{givenOf, fieldsRefusal, rowsIn};
 use alphabet::Class;
 use formats::Chosen;
 use numbers::Refusal;
 use numbers::Reply;
-use pins::Pin;
 use pins::Reading;
 use pins::Row;
 use pins::Verdict;
@@ -45,76 +42,6 @@ impl Given {
     }
 }
 
-// One nibble more: it goes behind what was taken, less `less`, where it is from low to high and there are not four yet.
-fn step(taken: Pin, n: u64, low: u64, high: u64, less: u64) -> Pin
-    requires { ⌜ Taken taken × (n < 16) × (less ≤ low) ⌝ }
-    ensures { λ r. ⌜ r ≡ pinOf (take 4 (digitsOf taken ++ map (λ m. m - less) (those (within low high) (n ∷ [])))) ⌝ }
-{
-    if n < low {
-        return taken;
-    }
-    if high < n {
-        return taken;
-    }
-    if 4 <= taken.length {
-        return taken;
-    }
-    Pin {
-        length: taken.length + 1,
-        digits: nibbles::join(taken.digits, taken.length, n - less),
-    }
-}
-
-// The nibbles from low to high, less `less`, from the left, behind what was taken before, until there are four.
-fn scan(enciphered: u64, low: u64, high: u64, less: u64, before: Pin) -> Pin
-    requires { ⌜ Taken before × (less ≤ low) ⌝ }
-    ensures { λ r. ⌜ r ≡ pinOf (take 4 (digitsOf before ++ map (λ m. m - less) (those (within low high) (row 16 enciphered)))) ⌝ }
-{
-    let mut taken = before;
-    let mut i: usize = 0;
-    while i < 16 {
-        taken = step(taken, nibbles::nibble(enciphered, i), low, high, less);
-        i += 1;
-    }
-    taken
-}
-
-// The PVV's four digits, as a row.
-fn digits_of(enciphered: u64) -> u64
-    ensures { λ r. ⌜ r ≡ word (pvvOf (row 16 enciphered)) ⌝ }
-{
-    let none = Pin {
-        length: 0,
-        digits: 0,
-    };
-    let decimal = scan(enciphered, 0, 9, 0, none);
-    let whole = scan(enciphered, 10, 15, 10, decimal);
-    whole.digits
-}
-
-// "the key index (0 to 6, else 15)"
-fn key_index(index: u32) -> bool
-    ensures { λ r. ⌜ r ≡ leb index 6 ⌝ }
-{
-    index <= 6
-}
-
-// The first four digits of a PIN, as a row.
-fn first_four(pin: u64) -> u64
-    ensures { λ r. ⌜ r ≡ word (take 4 (row 16 pin)) ⌝ }
-{
-    nibbles::part(pin, 0, 4)
-}
-
-// The last eleven account digits, the key index and the first four digits of the PIN, as a row.
-fn input_row(account: u64, index: u32, pin: u64) -> u64
-    requires { ⌜ index ≤ 6 ⌝ }
-    ensures { λ r. ⌜ r ≡ word (inputRow (row 12 account) index (row 16 pin)) ⌝ }
-{
-    let behind = nibbles::join(index as u64, 1, first_four(pin));
-    nibbles::join(nibbles::part(account, 1, 11), 11, behind)
-}
-
 // 15, field by field: block, account and key index.
 fn judged_fields(format: u32, index: u32, block: &[u8], account: &[u8]) -> Given
     ensures { λ r. ⌜ r ≡ givenOf (pvvGiven format index (now (block .entry)) (now (account .entry))) ⌝ }
@@ -127,7 +54,7 @@ fn judged_fields(format: u32, index: u32, block: &[u8], account: &[u8]) -> Given
     let Row::Held(digits) = kept else {
         return Given::Bad(Refusal::Field15);
     };
-    if !key_index(index) {
+    if !pvvinput::key_index(index) {
         return Given::Bad(Refusal::Field15);
     }
     Given::Of(Rows {
@@ -164,7 +91,7 @@ fn judged_input(format: u32, index: u32, block: &[u8], account: &[u8], room: usi
     let Reading::Got(pin) = reading else {
         return Row::Refused(reading.refusal());
     };
-    Row::Held(input_row(rows.account, rows.index, pin.digits))
+    Row::Held(pvvinput::input_row(rows.account, rows.index, pin.digits))
 }
 
 // Makes the input that is enciphered under the key of the index.
@@ -186,7 +113,7 @@ pub fn pvv(enciphered: &[u8], out: &mut [u8]) -> Reply
     let Row::Held(row) = sized else {
         return Reply::refused(Refusal::Field15);
     };
-    pins::put_characters(digits_of(row), 4, out);
+    pins::put_characters(pvvdigits::digits_of(row), 4, out);
     Reply::done(4)
 }
 
@@ -201,17 +128,6 @@ fn presented_row(pvv: &[u8]) -> Row
         return Row::Refused(Refusal::Field15);
     }
     Row::Held(pins::values(pvv))
-}
-
-// The verdict on four digits that are presented.
-fn compared(enciphered: u64, shown: u64) -> Verdict
-    requires { ⌜ shown < 16 ^ 4 ⌝ }
-    ensures { λ r. ⌜ r ≡ verdictOf (verdict (same (pvvOf (row 16 enciphered)) (row 4 shown))) ⌝ }
-{
-    if digits_of(enciphered) != shown {
-        return Verdict::Refused(Refusal::Unverified01);
-    }
-    Verdict::Verified
 }
 
 // Judges the call that gives the verdict: 15 for block, account, index, enciphered input and PVV, 23, 69, the block, 01.
@@ -241,7 +157,7 @@ fn judged_verdict(
     let Reading::Got(_) = reading else {
         return Verdict::Refused(reading.refusal());
     };
-    compared(made, shown)
+    pvvdigits::compared(made, shown)
 }
 
 // The verdict on a PVV that is presented: 00 exactly for the digits that the enciphered input makes.

@@ -3,7 +3,7 @@
 use Prim.Native.Nat.{ℕ}
 use mathlib.Core.Path.{ap, ap₂, _∙_}
 use borrow.Author.Needs.{needs}
-use Rattle.pvv.proofs.Laws.{an-index, no-index}
+use Rattle.pvvinput.proofs.Laws.{an-index, no-index}
 use Rattle.pvv.specs.declared.Given.the-variants.{Of}
 use Rattle.pvv.specs.Pvv.{pvvGiven}
 use Rattle.pins.proofs.Laws.{sized-held, sized-not, account-held, account-not}

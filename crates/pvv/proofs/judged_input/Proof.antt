@@ -3,9 +3,11 @@
 use mathlib.Core.Path.{ap, sym, _∙_}
 use borrow.Author.Tests.{le-leb, lt-leb}
 use borrow.Author.Needs.{needs}
-use Rattle.pvv.proofs.Laws.{input-parts, fields-of, fields-bad, read-pin, input-pin, input-sixteen}
+use Rattle.pvvinput.proofs.Laws.{input-pin}
+use Rattle.pvv.proofs.Laws.{input-parts, fields-of, fields-bad, read-pin, input-sixteen}
 use Rattle.pvv.specs.Answers.{fieldsRefusal, rowsIn}
-use Rattle.pvv.specs.Pvv.{inputRow, pinRead, pvvInput}
+use Rattle.pvvinput.specs.PvvInput.{inputRow}
+use Rattle.pvv.specs.Pvv.{pinRead, pvvInput}
 use Rattle.blocks.proofs.Laws.{sixteen-nibs}
 use Rattle.pins.proofs.Laws.{reading-got, reading-bad}
 use Rattle.pins.specs.declared.Pin.{Pin}

@@ -6,7 +6,8 @@ use mathlib.Core.Path.{ap, ap₂, sym, _∙_}
 use borrow.Author.Needs.{needs}
 use Rattle.pvv.proofs.Laws.{pvv-parts, fields-of, fields-bad, behind-held, behind-refused, presented-not, presented-row}
 use Rattle.pvv.specs.Answers.{fieldsRefusal, rowsIn}
-use Rattle.pvv.specs.Pvv.{presented, pinRead, pvvOf}
+use Rattle.pvvdigits.specs.PvvDigits.{pvvOf}
+use Rattle.pvv.specs.Pvv.{presented, pinRead}
 use Rattle.pins.proofs.Laws.{sized-held, sized-not, block-row, reading-got, reading-bad}
 use Rattle.pins.specs.declared.Verdict.the-variants.{Refused}
 use Rattle.pins.specs.Pins.{verdict}

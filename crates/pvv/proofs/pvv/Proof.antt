@@ -5,8 +5,10 @@ use mathlib.Core.List.{List, _++_}
 use mathlib.Core.Path.{_≡_, ap, sym, _∙_}
 use lib.ListN.{length, drop}
 use borrow.Author.Needs.{needs}
-use Rattle.pvv.proofs.Laws.{room-short, input-long, made-done, pvv-spelled, pvv-characters}
-use Rattle.pvv.specs.Pvv.{pvvOf, pvvMade}
+use Rattle.pvvdigits.proofs.Laws.{pvv-spelled, pvv-characters}
+use Rattle.pvv.proofs.Laws.{room-short, input-long, made-done}
+use Rattle.pvvdigits.specs.PvvDigits.{pvvOf}
+use Rattle.pvv.specs.Pvv.{pvvMade}
 use Rattle.pins.proofs.Laws.{sized-held, sized-not, block-row}
 use Rattle.alphabet.specs.Alphabet.{characters}
 use Rattle.numbers.proofs.Laws.{does-refuse, does-write}

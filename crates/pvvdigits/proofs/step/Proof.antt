@@ -1,4 +1,4 @@
--- `pvv::step` meets its contract.
+-- `pvvdigits::step` meets its contract.
 -- Assumes nothing.
 use Prim.Native.Nat.{ℕ, _+_, _-_, _^_, _<_, _≤_}
 use native.Mathlib.Omega.{arith}
@@ -8,12 +8,12 @@ use mathlib.Core.Path.{sym, ap, _∙_}
 use lib.Dec.{lit<}
 use lib.ListN.{take}
 use borrow.Author.Needs.{needs}
-use Rattle.pvv.proofs.Laws.{found-one, found-none, taken-kept, taken-full, taken-one}
+use Rattle.pvvdigits.proofs.Laws.{found-one, found-none, taken-kept, taken-full, taken-one}
 use Rattle.pins.specs.Answers.{pinOf}
 use Rattle.blocks.specs.Answers.{digitsOf}
 use Rattle.nibbles.proofs.Runs.{inside, under, over}
-use Rattle.pvv.proofs.step.Statement.{statement}
-use Rattle.pvv.proofs.step.Tie as tie
+use Rattle.pvvdigits.proofs.step.Statement.{statement}
+use Rattle.pvvdigits.proofs.step.Tie as tie
 
 returns : tie.Need-returns
 returns c =

@@ -1,4 +1,4 @@
--- `pvv::scan` meets its contract. The loop's invariant: what was taken and what is found from `i` on make the same four as at first.
+-- `pvvdigits::scan` meets its contract. The loop's invariant: what was taken and what is found from `i` on make the same four as at first.
 -- Assumes nothing.
 use Prim.Native.Nat.{_-_, _≤_, _<_}
 use native.Mathlib.Omega.{arith}
@@ -6,14 +6,14 @@ use mathlib.Core.List.{_++_}
 use mathlib.Core.Path.{_≡_, refl, ap, _∙_}
 use lib.ListN.{take, drop, drop-of-length-le}
 use borrow.Author.Needs.{needs}
-use Rattle.pvv.proofs.Laws.{found, found-nil, taken-kept, step-taken, step-rest}
-use Rattle.pvv.specs.Answers.{Taken}
+use Rattle.pvvdigits.proofs.Laws.{found, found-nil, taken-kept, step-taken, step-rest}
+use Rattle.pvvdigits.specs.Answers.{Taken}
 use Rattle.pins.specs.Answers.{pinOf}
 use Rattle.blocks.specs.Answers.{digitsOf}
 use Rattle.nibbles.proofs.Rows.{row-length, row-below, row-at-lt}
 use Rattle.nibbles.specs.Nibbles.{row}
-use Rattle.pvv.proofs.scan.Statement.{statement}
-use Rattle.pvv.proofs.scan.Tie as tie
+use Rattle.pvvdigits.proofs.scan.Statement.{statement}
+use Rattle.pvvdigits.proofs.scan.Tie as tie
 
 abbrev Inv-loop : tie.InvT-loop
 Inv-loop enciphered low high less taken₀ i₀ taken i = (i ≤ 16) × Taken taken × (take 4 (digitsOf taken ++ found low high less (drop i (row 16 enciphered))) ≡ take 4 (digitsOf taken₀ ++ found low high less (row 16 enciphered)))

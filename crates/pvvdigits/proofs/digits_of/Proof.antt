@@ -1,12 +1,12 @@
--- `pvv::digits_of` meets its contract.
+-- `pvvdigits::digits_of` meets its contract.
 -- Assumes nothing.
 use lib.Dec.{lit≤}
 use borrow.Author.Needs.{needs}
-use Rattle.pvv.proofs.Laws.{scans-taken, scans-pvv}
+use Rattle.pvvdigits.proofs.Laws.{scans-taken, scans-pvv}
 use Rattle.nibbles.proofs.Rows.{row-below}
 use Rattle.nibbles.specs.Nibbles.{row}
-use Rattle.pvv.proofs.digits_of.Statement.{statement}
-use Rattle.pvv.proofs.digits_of.Tie as tie
+use Rattle.pvvdigits.proofs.digits_of.Statement.{statement}
+use Rattle.pvvdigits.proofs.digits_of.Tie as tie
 
 scan-requires : tie.Need-scan-requires
 scan-requires c κs = search needs

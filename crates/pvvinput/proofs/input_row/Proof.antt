@@ -1,13 +1,13 @@
--- `pvv::input_row` meets its contract.
+-- `pvvinput::input_row` meets its contract.
 -- Assumes nothing.
 use Prim.Native.Nat.{ℕ, _+_, _*_, _^_, _<_}
 use native.Mathlib.Omega.{arith}
 use mathlib.Core.Path.{ap, _∙_}
 use lib.Dec.{lit<, lit≤}
 use borrow.Author.Needs.{needs}
-use Rattle.pvv.proofs.Laws.{part-under, input-word}
-use Rattle.pvv.proofs.input_row.Statement.{statement}
-use Rattle.pvv.proofs.input_row.Tie as tie
+use Rattle.pvvinput.proofs.Laws.{part-under, input-word}
+use Rattle.pvvinput.proofs.input_row.Statement.{statement}
+use Rattle.pvvinput.proofs.input_row.Tie as tie
 
 first-four-requires : tie.Need-first-four-requires
 first-four-requires c κs = search needs

@@ -1,8 +1,8 @@
--- `pvv::first_four` meets its contract.
+-- `pvvinput::first_four` meets its contract.
 -- Assumes nothing.
 use borrow.Author.Needs.{needs}
-use Rattle.pvv.proofs.first_four.Statement.{statement}
-use Rattle.pvv.proofs.first_four.Tie as tie
+use Rattle.pvvinput.proofs.first_four.Statement.{statement}
+use Rattle.pvvinput.proofs.first_four.Tie as tie
 
 part-requires : tie.Need-part-requires
 part-requires c κs = search needs

@@ -1,10 +1,10 @@
--- `pvv::compared` meets its contract.
+-- `pvvdigits::compared` meets its contract.
 -- Assumes nothing.
 use mathlib.Core.Path.{sym, _∙_}
 use borrow.Author.Needs.{needs}
-use Rattle.pvv.proofs.Laws.{verdict-same, verdict-other}
-use Rattle.pvv.proofs.compared.Statement.{statement}
-use Rattle.pvv.proofs.compared.Tie as tie
+use Rattle.pvvdigits.proofs.Laws.{verdict-same, verdict-other}
+use Rattle.pvvdigits.proofs.compared.Statement.{statement}
+use Rattle.pvvdigits.proofs.compared.Tie as tie
 
 digits-of-requires : tie.Need-digits-of-requires
 digits-of-requires c κs = search needs

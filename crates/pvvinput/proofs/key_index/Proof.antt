@@ -1,8 +1,8 @@
--- `pvv::key_index` meets its contract.
+-- `pvvinput::key_index` meets its contract.
 -- Assumes nothing.
 use mathlib.Core.Path.{refl}
-use Rattle.pvv.proofs.key_index.Statement.{statement}
-use Rattle.pvv.proofs.key_index.Tie as tie
+use Rattle.pvvinput.proofs.key_index.Statement.{statement}
+use Rattle.pvvinput.proofs.key_index.Tie as tie
 
 returns : tie.Need-returns
 returns c = refl

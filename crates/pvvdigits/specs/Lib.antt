@@ -1,0 +1,2 @@
+pub mod PvvDigits
+pub mod Answers
