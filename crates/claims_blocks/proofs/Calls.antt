@@ -20,7 +20,9 @@ use Rattle.formats.specs.declared.Code.the-variants.{Built}
 use Rattle.pins.specs.Pins.{pinHanded, accountOf, accountField}
 use Rattle.blocks.specs.Blocks.{veil, readRow, writeRow, readBlock, writeBlock}
 use Rattle.blocks.proofs.Laws.{Sixteen, written-row, field-sixteen, sixteen-nibs, sixteen-bytes, call-read}
-use Rattle.translation.specs.Translation.{permitted, pairOf, translateBlock}
+use Rattle.restriction.specs.Restriction.{permitted}
+use Rattle.pairs.specs.Pairs.{pairOf}
+use Rattle.translation.specs.Translation.{translateBlock}
 use Rattle.claims_blocks.specs.Claims.{Carries, IsPin, IsBytes, Written, WrittenReads, ReadOrRefused, BlockRefusedExactly, BlockAcceptedIn03, TranslationKeeps}
 use Rattle.claims_blocks.proofs.Judged.{judged, Only, Fault, decided, not-done, not-refused}
 use Rattle.claims_blocks.proofs.Bytes.{sixteen, is-row, nibs-row, packs-bytes, pinned-pin, is-pin, pin-handed, handed-pin}

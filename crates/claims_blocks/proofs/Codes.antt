@@ -19,7 +19,9 @@ use Rattle.formats.specs.declared.Format.{Format}
 use Rattle.formats.specs.declared.Format.the-variants.{F01, F03, F05, F34, F35, F47}
 use Rattle.pins.specs.Pins.{digit, pinLength, digitsHanded, pinHanded, accountField}
 use Rattle.blocks.specs.Blocks.{readRow, writeRow, readBlock, writeBlock}
-use Rattle.translation.specs.Translation.{restrictedPair, permitted, pairOf, translateBlock}
+use Rattle.restriction.specs.Restriction.{restrictedPair, permitted}
+use Rattle.pairs.specs.Pairs.{pairOf}
+use Rattle.translation.specs.Translation.{translateBlock}
 use Rattle.claims_blocks.specs.Promises.{listed}
 use Rattle.claims_blocks.specs.Codes.{knownCodes, unbuiltCodes, restrictedPairs, listedPair, ofContents, leftBy, leftByPair, OneOfThem, CodesExactly, RestrictedExactly}
 use Rattle.claims_blocks.proofs.Judged.{Only, Fault, done-only, test-only, then-only}

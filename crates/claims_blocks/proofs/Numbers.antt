@@ -20,7 +20,9 @@ use Rattle.formats.specs.declared.Code.the-variants.{Built, Known, Unknown}
 use Rattle.formats.specs.declared.Format.{Format}
 use Rattle.pins.specs.Pins.{digit, pinLength, digitsHanded, pinHanded, padded, accountOf, accountField, sized}
 use Rattle.blocks.specs.Blocks.{readRow, writeRow, readBlock, writeBlock}
-use Rattle.translation.specs.Translation.{permitted, pairOf, translateBlock}
+use Rattle.restriction.specs.Restriction.{permitted}
+use Rattle.pairs.specs.Pairs.{pairOf}
+use Rattle.translation.specs.Translation.{translateBlock}
 use Rattle.claims_blocks.specs.Promises.{OfCalls, NumbersOfCalls}
 use Rattle.claims_blocks.proofs.Judged.{Only, Fault, done-only, refused-only, test-only, then-only}
 use Rattle.claims_blocks.proofs.Trips.{read-faults}

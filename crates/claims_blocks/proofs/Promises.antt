@@ -14,7 +14,8 @@ use Rattle.numbers.specs.Promise.{Does, quietly}
 use Rattle.numbers.specs.declared.Reply.{Reply}
 use Rattle.formats.specs.Formats.{codeOf}
 use Rattle.blocks.specs.Blocks.{contents, readRow, writeRow, readBlock, writeBlock}
-use Rattle.translation.specs.Translation.{pairOf, translateBlock}
+use Rattle.pairs.specs.Pairs.{pairOf}
+use Rattle.translation.specs.Translation.{translateBlock}
 use Rattle.claims_blocks.specs.Claims.{IsBytes}
 use Rattle.claims_blocks.specs.Figures.{usualAccount, usualPin, longPin, blockP1, blockP6}
 use Rattle.claims_blocks.specs.Promises.{zeros, Only00, Apart, NotRefusing, NotFixed, NotSilent}

@@ -16,7 +16,8 @@ use Rattle.formats.specs.declared.Format.the-variants.{F01, F03, F05, F34, F35,
 use Rattle.formats.specs.declared.Lead.{Lead}
 use Rattle.formats.specs.declared.Lead.the-variants.{Bare, Control}
 use Rattle.formats.specs.declared.Code.the-variants.{Built}
-use Rattle.translation.specs.Translation.{pairOf, translateBlock}
+use Rattle.pairs.specs.Pairs.{pairOf}
+use Rattle.translation.specs.Translation.{translateBlock}
 
 -- a PIN: 4 to 12 digits
 abbrev pub IsPin : List ℕ → Type 0

@@ -1,7 +1,18 @@
 -- One answer to every promise of the crates of PIN blocks: each function cites the law of its shape.
 -- Assumes nothing.
-use Rattle.claims_functions.specs.Blocks.{BlocksSettled, TranslationSettled, ValidationSettled, NaturalsSettled, Ibm3624Settled, OffsetTextsSettled, PvvDigitsSettled, PvvInputSettled, PvvSettled, OffsetsSettled, VerdictsSettled}
+use Rattle.claims_functions.specs.Blocks.{RestrictionSettled, PairsSettled, BlocksSettled, TranslationSettled, ValidationSettled, NaturalsSettled, Ibm3624Settled, OffsetTextsSettled, PvvDigitsSettled, PvvInputSettled, PvvSettled, OffsetsSettled, VerdictsSettled}
 use Rattle.claims_functions.proofs.Once.{settled, left, answered, verdict}
+
+pub restriction-once : RestrictionSettled
+restriction-once = record {
+  may = λ κs a r r′ ends ends′. settled;
+}
+
+pub pairs-once : PairsSettled
+pairs-once = record {
+  Pair·by = λ κs a r r′ ends ends′. settled;
+  Pair·refusal = λ κs a r r′ ends ends′. settled;
+}
 
 pub blocks-once : BlocksSettled
 blocks-once = record {
@@ -15,8 +26,6 @@ blocks-once = record {
 
 pub translation-once : TranslationSettled
 translation-once = record {
-  Pair·by = λ κs a r r′ ends ends′. settled;
-  Pair·refusal = λ κs a r r′ ends ends′. settled;
   translate = λ κs a r r′ ends ends′. answered 6;
 }
 

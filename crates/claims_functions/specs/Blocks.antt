@@ -1,6 +1,8 @@
 -- One answer to every promise of the crates of PIN blocks: reading and writing, translation, validation data, offsets and PVVs.
 -- Each line is over the contract of the function of its name, as the checker reads it for a caller. No line needs what a function
 -- requires: outside it a contract promises nothing.
+use Rattle.restriction.proofs as Restriction
+use Rattle.pairs.proofs as Pairs
 use Rattle.blocks.proofs as Blocks
 use Rattle.translation.proofs as Translation
 use Rattle.validation.proofs as Validation
@@ -14,6 +16,15 @@ use Rattle.offsets.proofs as Offsets
 use Rattle.verdicts.proofs as Verdicts
 use Rattle.claims_functions.specs.Once.{Settled}
 
+-- every public function of restriction
+pub record RestrictionSettled : Type 0 where
+  pub may : Settled Restriction.may.ended Restriction.may.Reads.Learnt
+
+-- every public function of pairs
+pub record PairsSettled : Type 0 where
+  pub Pair·by : Settled Pairs.Pair.by.ended Pairs.Pair.by.Reads.Learnt
+  pub Pair·refusal : Settled Pairs.Pair.refusal.ended Pairs.Pair.refusal.Reads.Learnt
+
 -- every public function of blocks
 pub record BlocksSettled : Type 0 where
   pub read : Settled Blocks.read.ended Blocks.read.Reads.Learnt
@@ -25,8 +36,6 @@ pub record BlocksSettled : Type 0 where
 
 -- every public function of translation
 pub record TranslationSettled : Type 0 where
-  pub Pair·by : Settled Translation.Pair.by.ended Translation.Pair.by.Reads.Learnt
-  pub Pair·refusal : Settled Translation.Pair.refusal.ended Translation.Pair.refusal.Reads.Learnt
   pub translate : Settled Translation.translate.ended Translation.translate.Reads.Learnt
 
 -- every public function of validation

@@ -1,25 +1,20 @@
--- What a pair stands for, and what a translated block is.
+-- What a translated block is.
 -- Assumes nothing.
 use Prim.Native.Nat.{ℕ}
-use mathlib.Core.Path.{_≡_, refl, sym}
+use mathlib.Core.Path.{sym}
 use mathlib.Core.List.{List}
 use mathlib.Core.Bool.{Bool}
 use lib.Dec.{leb}
 use borrow.Author.Tests.{leb-true}
 use Rattle.nibbles.proofs.Lists.{Below}
-use Rattle.numbers.specs.Numbers.{Outcome, done, refused, unless}
+use Rattle.numbers.specs.Numbers.{unless}
 use Rattle.numbers.specs.declared.Refusal.the-variants.{Room901}
 use Rattle.numbers.proofs.Laws.{then-done, passed, value-of}
-use Rattle.formats.specs.declared.Format.{Format}
 use Rattle.pins.specs.Pins.{accountOf, accountField, sized}
 use Rattle.blocks.specs.Blocks.{readRow, writeRow}
 use Rattle.blocks.proofs.Laws.{Blocky, read-pinned, written-row, field-sixteen, bytes-sixteen}
-use Rattle.translation.specs.Translation.{pairOf, translateBlock}
-use Rattle.translation.specs.Answers.{pairFrom, pairIn}
-
-pub pair-back : (o : Outcome (Format × Format)) → pairIn (pairFrom o) ≡ o
-pair-back (done p) = refl
-pair-back (refused q) = refl
+use Rattle.pairs.specs.Pairs.{pairOf}
+use Rattle.translation.specs.Translation.{translateBlock}
 
 pub call-translated :
     (restricted : Bool) (from to : ℕ) (block account fill : List ℕ) (room : ℕ) → Below 256 block → Below 256 fill

@@ -4,7 +4,7 @@ use Prim.Native.Nat.{ℕ}
 use mathlib.Core.List.{List}
 use mathlib.Core.Path.{ap, ap₂, sym, _∙_}
 use borrow.Author.Needs.{needs}
-use Rattle.translation.specs.Answers.{refusalIn}
+use Rattle.pairs.specs.Answers.{refusalIn}
 use Rattle.blocks.proofs.Laws.{read-pinned, proper, block-held, written-row, row-sixteen, field-row-sixteen}
 use Rattle.blocks.specs.Answers.{digitsOf}
 use Rattle.blocks.specs.Blocks.{readRow, writeRow}

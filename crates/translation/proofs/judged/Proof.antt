@@ -5,9 +5,10 @@ use mathlib.Core.List.{List}
 use mathlib.Core.Path.{ap, ap₂, _∙_}
 use borrow.Author.Tests.{le-leb, lt-leb}
 use borrow.Author.Needs.{needs}
-use Rattle.translation.proofs.Laws.{pair-back}
-use Rattle.translation.specs.Answers.{pairIn}
-use Rattle.translation.specs.Translation.{pairOf, carriedBlock, translateBlock}
+use Rattle.pairs.proofs.Laws.{pair-back}
+use Rattle.pairs.specs.Answers.{pairIn}
+use Rattle.pairs.specs.Pairs.{pairOf}
+use Rattle.translation.specs.Translation.{carriedBlock, translateBlock}
 use Rattle.blocks.specs.Answers.{blockOf}
 use Rattle.pins.proofs.Laws.{sized-held, sized-not, account-held, account-not, account-under, account-row, block-row}
 use Rattle.pins.specs.Answers.{rowOf}

@@ -1,8 +1,8 @@
--- `translation::may` meets its contract.
+-- `restriction::may` meets its contract.
 -- Assumes nothing.
 use borrow.Author.Needs.{needs}
-use Rattle.translation.proofs.may.Statement.{statement}
-use Rattle.translation.proofs.may.Tie as tie
+use Rattle.restriction.proofs.may.Statement.{statement}
+use Rattle.restriction.proofs.may.Tie as tie
 
 restricted-pair-requires : tie.Need-restricted-pair-requires
 restricted-pair-requires c κs = search needs

@@ -1,13 +1,13 @@
--- `translation::Pair::by` meets its contract.
+-- `pairs::Pair::by` meets its contract.
 -- Assumes nothing.
 use mathlib.Core.Path.{ap, sym, _∙_}
 use borrow.Author.Tests.{not-true, not-false}
 use borrow.Author.Needs.{needs}
-use Rattle.translation.specs.Translation.{pairOf}
+use Rattle.pairs.specs.Pairs.{pairOf}
 use Rattle.formats.proofs.Laws.{chosen-of, chosen-bad, not-here}
 use Rattle.formats.specs.Formats.{codeOf, isKnown, formatOf}
-use Rattle.translation.proofs.Pair.by.Statement.{statement}
-use Rattle.translation.proofs.Pair.by.Tie as tie
+use Rattle.pairs.proofs.Pair.by.Statement.{statement}
+use Rattle.pairs.proofs.Pair.by.Tie as tie
 
 of-requires : tie.Need-of-requires
 of-requires c κs = search needs

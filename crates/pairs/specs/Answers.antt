@@ -3,8 +3,8 @@ use Rattle.numbers.specs.Numbers.{Outcome, done, refused}
 use Rattle.numbers.specs.declared.Refusal.{Refusal}
 use Rattle.numbers.specs.declared.Refusal.the-variants.{NotHere69}
 use Rattle.formats.specs.declared.Format.{Format}
-use Rattle.translation.specs.declared.Pair.{Pair}
-use Rattle.translation.specs.declared.Pair.the-variants.{Of, Bad}
+use Rattle.pairs.specs.declared.Pair.{Pair}
+use Rattle.pairs.specs.declared.Pair.the-variants.{Of, Bad}
 
 -- the two formats, or the refusal
 abbrev pub pairFrom : Outcome (Format × Format) → Pair
