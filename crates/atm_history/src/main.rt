@@ -41,14 +41,14 @@ fn written(format: u32) -> [u8; 8] {
     let account = ACCOUNT;
     let fill = FILL;
     let mut block = [0u8; 8];
-    blocks::write_block(format, &pin, &account, &fill, &mut block);
+    blockcalls::write_block(format, &pin, &account, &fill, &mut block);
     block
 }
 
 fn show_reading(label: &[u8], format: u32, block: [u8; 8]) {
     let account = ACCOUNT;
     let mut digits = [0u8; 12];
-    let reply = blocks::read_block(format, &block, &account, &mut digits);
+    let reply = blockcalls::read_block(format, &block, &account, &mut digits);
     if reply.number != 0 {
         show_refusal(label, reply.number);
         return;

@@ -13,7 +13,7 @@ use Rattle.numbers.specs.declared.Refusal.the-variants.{Weak86}
 use Rattle.numbers.proofs.Laws.{then-done, passed, value-of}
 use Rattle.settings.specs.declared.Settings.{Settings}
 use Rattle.pins.specs.Pins.{lastOf}
-use Rattle.blocks.proofs.Laws.{Sixteen, sixteen-bytes}
+use Rattle.answers.proofs.Laws.{Sixteen, sixteen-bytes}
 use Rattle.ibm3624.specs.Ibm3624.{covers, covered, offsetOf, moduloTen}
 use Rattle.ibm3624.proofs.Laws.{differences-length, reduced-below}
 use Rattle.offsets.specs.Offsets.{offsetFor}

@@ -8,31 +8,32 @@ use mathlib.Core.List.{List, [], _∷_, _++_, map}
 use mathlib.Core.Bool.{Bool, true, false, _&&_}
 use lib.ListN.{length, getD, drop, length-map, length-append, length-drop}
 use lib.Seq.{slice, take-all, length-slice}
-use lib.Dec.{leb, eqb, lit<, lit≤}
+use lib.Dec.{eqb, lit<, lit≤}
 use lib.Bits.{xor-lt}
-use borrow.Author.Tests.{leb-true, le-leb, eqb-true}
-use Rattle.nibbles.specs.Nibbles.{row, word, nibs, packs, xors, within, every, leading}
+use borrow.Author.Tests.{le-leb, eqb-true}
+use Rattle.nibbles.specs.Nibbles.{row, word, xors, within, every, leading}
 use Rattle.nibbles.proofs.Lists.{Below, below-weaken, and-left, and-right, map-at, below-drop}
 use Rattle.nibbles.proofs.Rows.{row-length, row-below, row-part, row-word, word-row, word-none, word-lt, word-append}
-use Rattle.nibbles.proofs.Bytes.{nibs-length, nibs-below, nibs-packs, packs-length}
 use Rattle.nibbles.proofs.Runs.{leading-take, inside-high, every-leading, run-whole, run-broken, below-every}
-use Rattle.numbers.specs.Numbers.{Outcome, done, refused, andThen, unless}
+use Rattle.numbers.specs.Numbers.{done, refused, andThen}
 use Rattle.numbers.specs.declared.Refusal.{Refusal}
-use Rattle.numbers.specs.declared.Refusal.the-variants.{Block20, Length24, Room901}
-use Rattle.formats.specs.Formats.{leadOf, leadWidth, leads, filled, fillRead, fillWritten, leastFill, fits, veiled, codeOf, formatOf}
+use Rattle.numbers.specs.declared.Refusal.the-variants.{Block20, Length24}
+use Rattle.formats.specs.Formats.{leadOf, leadWidth, leads, filled, fillRead, fillWritten, leastFill, fits, veiled}
 use Rattle.formats.specs.declared.Format.{Format}
 use Rattle.formats.specs.declared.Format.the-variants.{F01, F03, F05, F34, F35, F47}
 use Rattle.formats.specs.declared.Lead.{Lead}
 use Rattle.formats.specs.declared.Lead.the-variants.{Bare, Control}
 use Rattle.formats.specs.declared.Fill.{Fill}
 use Rattle.formats.specs.declared.Fill.the-variants.{F, AToF, Any}
-use Rattle.pins.specs.Pins.{digit, pinLength, pinHanded, sized, accountOf, accountField}
-use Rattle.pins.specs.Answers.{pinOf, readingOf}
+use Rattle.pins.specs.Pins.{digit, pinLength}
+use Rattle.pins.specs.Answers.{pinOf}
 use Rattle.pins.specs.declared.Pin.{Pin}
-use Rattle.numbers.proofs.Laws.{passed, failed, then-done, value-of}
-use Rattle.pins.proofs.Laws.{Pinned, pinned, account-done, sized-done, handed-done, pin-under, pin-row}
-use Rattle.blocks.specs.Blocks.{veil, beforeF, counted, contents, readRow, readBlock, writeBlock, clearRow, writeRow}
-use Rattle.blocks.specs.Answers.{blockOf, bytesOf, Roomy, digitsIn, RoomyDigits, digitsOf, Proper}
+use Rattle.numbers.proofs.Laws.{passed, failed, then-done}
+use Rattle.pins.proofs.Laws.{Pinned, pinned, pin-under, pin-row}
+use Rattle.answers.specs.Answers.{digitsOf}
+use Rattle.answers.proofs.Laws.{Sixteen, sixteen-word}
+use Rattle.blocks.specs.Blocks.{veil, beforeF, counted, contents, readRow, clearRow, writeRow}
+use Rattle.blocks.specs.Answers.{Proper}
 
 -- what passes a test passes it behind a place
 every-drop : (p : ℕ → Bool) (k : ℕ) (xs : List ℕ) → every p xs ≡ true → every p (drop k xs) ≡ true
@@ -253,24 +254,7 @@ read-pinned f with ns ds h k e =
     let long : length ds ≡ u .0 = ap length (sym (p .1)) ∙ length-slice from (from + u .0) clear (rw (veil-length (veiled f) with ns h k) (omega arith)) ∙ omega arith in
     pinned ds (rw (long, ← n .1) (n .0)) (rw (← p .1) (and-left _ _ (p .0)))
 
-pub call-read : (code : ℕ) (block account : List ℕ) (room : ℕ) (ds : List ℕ) → readBlock code block account room ≡ done ds → (12 ≤ room) × Pinned ds
-unfolding readBlock
-call-read code block account room ds e =
-    let r = then-done (unless Room901 (leb 12 room) room) _ ds e in
-    let s = then-done (sized 8 block) _ ds (r .2) in
-    let k = then-done (accountOf account) _ ds (s .2) in
-    let f = then-done (formatOf (codeOf code)) _ ds (k .2) in
-    let b = sized-done 8 block (s .0) (s .1) in
-    let n = account-done account (k .0) (k .1) in (
-      leb-true 12 room (passed Room901 (leb 12 room) room (r .0) (r .1) .0),
-      read-pinned (f .0) (accountField (k .0)) (s .0) ds (omega (arith, n .0)) (ap length (sym (b .1)) ∙ nibs-length block ∙ (let l = b .0 in omega arith)) (f .2),
-    )
-
 -- ---- what is written is a row of sixteen nibbles
-
-pub record Sixteen (ns : List ℕ) : Type 0 where
-  pub long : length ns ≡ 16
-  pub nibbles : Below 16 ns
 
 xors-below : (xs ys : List ℕ) → Below 16 xs → Below 16 ys → Below 16 (xors xs ys)
 unfolding xors
@@ -299,45 +283,6 @@ written-row f with ds fill w p s =
           (filled-each (fillWritten f) (drop from fill) (below-drop 16 from fill (s .nibbles))));
     }
 
--- the field of an account, and the nibbles of eight bytes
-pub field-sixteen : (account digits : List ℕ) → accountOf account ≡ done digits → Sixteen (accountField digits)
-field-sixteen account digits e =
-    let n = account-done account digits e in
-    record { long = omega (arith, n .0); nibbles = (lit< tt, (lit< tt, (lit< tt, (lit< tt, n .1)))) }
-
-pub bytes-sixteen : (bs ns : List ℕ) → Below 256 bs → sized 8 bs ≡ done ns → Sixteen ns
-bytes-sixteen bs ns b e =
-    let s = sized-done 8 bs ns e in
-    rw (← s .1) (record { long = nibs-length bs ∙ (let n = s .0 in omega arith); nibbles = nibs-below bs b })
-
--- a row's word holds it, and its bytes are eight
-pub sixteen-word : (ns : List ℕ) → Sixteen ns → row 16 (word ns) ≡ ns
-sixteen-word ns s = ap (λ (n : ℕ). row n (word ns)) (sym (s .long)) ∙ row-word ns (s .nibbles)
-
-pub sixteen-nibs : (ns : List ℕ) → Sixteen ns → nibs (packs ns) ≡ ns
-sixteen-nibs ns s = nibs-packs 8 ns (s .long) (s .nibbles)
-
-pub sixteen-bytes : (ns : List ℕ) → Sixteen ns → length (packs ns) ≡ 8
-sixteen-bytes ns s = packs-length 8 ns (s .long)
-
--- the call's block is the bytes of such a row
-pub call-written : (code : ℕ) (pin account fill : List ℕ) (room : ℕ) (bs : List ℕ) → Below 256 fill → writeBlock code pin account fill room ≡ done bs → (8 ≤ room) × ((ns : List ℕ) × Sixteen ns × (bs ≡ packs ns))
-unfolding writeBlock
-call-written code pin account fill room bs b e =
-    let r = then-done (unless Room901 (leb 8 room) room) _ bs e in
-    let k = then-done (accountOf account) _ bs (r .2) in
-    let s = then-done (sized 8 fill) _ bs (k .2) in
-    let f = then-done (formatOf (codeOf code)) _ bs (s .2) in
-    let p = then-done (pinHanded pin) _ bs (f .2) in
-    let h = handed-done pin (p .0) (p .1) in (
-      leb-true 8 room (passed Room901 (leb 8 room) room (r .0) (r .1) .0),
-      (
-        writeRow (f .0) (accountField (k .0)) (p .0) (s .0),
-        written-row (f .0) (accountField (k .0)) (p .0) (s .0) (field-sixteen account (k .0) (k .1)) (rw (h .0) at (h .1)) (bytes-sixteen fill (s .0) b (s .1)),
-        sym (value-of (p .2)),
-      ),
-    )
-
 -- a PIN that was judged is proper
 pub proper : (ds : List ℕ) → Pinned ds → Proper (pinOf ds)
 proper ds p =
@@ -348,16 +293,6 @@ proper ds p =
       clean = pin-under ds p;
     }
 
--- the word of a row is the word of the row's bytes
-pub block-held : (w : ℕ) (ns : List ℕ) → Sixteen ns → w ≡ word ns → w ≡ word (nibs (packs ns))
-block-held w ns s e = e ∙ ap word (sym (sixteen-nibs ns s))
-
-pub row-sixteen : (w : ℕ) → Sixteen (row 16 w)
-row-sixteen w = record { long = row-length 16 w; nibbles = row-below 16 w }
-
-pub field-row-sixteen : (a : ℕ) → Sixteen (accountField (row 12 a))
-field-row-sixteen a = record { long = omega (arith, row-length 12 a); nibbles = (lit< tt, (lit< tt, (lit< tt, (lit< tt, row-below 12 a)))) }
-
 -- under the veil or not, the word holds the row
 pub veil-held : (on : Bool) (a b w : ℕ) → w ≡ word (veil on (row 16 a) (row 16 b)) → row 16 w ≡ veil on (row 16 a) (row 16 b)
 veil-held on a b w e =
@@ -367,39 +302,3 @@ veil-held on a b w e =
       long = veil-length on (row 16 a) (row 16 b) (row-length 16 a) (row-length 16 b);
       nibbles = veil-below on (row 16 a) (row 16 b) (row-below 16 a) (row-below 16 b);
     })
-
--- ---- an outcome that is a block, as the answer that is written
-
--- its value, where it has one, is the bytes of a row of sixteen nibbles, and there is room for it
-abbrev pub Blocky : Outcome (List ℕ) → ℕ → Type 0
-Blocky o room = (bs : List ℕ) → o ≡ done bs → (8 ≤ room) × ((ns : List ℕ) × Sixteen ns × (bs ≡ packs ns))
-
-pub answered : (o : Outcome (List ℕ)) (room : ℕ) → Blocky o room → bytesOf (blockOf o) ≡ o
-answered (done bs) room b =
-    let p = b bs refl in
-    let e : nibs bs ≡ p .1 .0 = ap nibs (p .1 .2) ∙ sixteen-nibs (p .1 .0) (p .1 .1) in
-    ap done (ap (λ (ns : List ℕ). packs (row 16 (word ns))) e ∙ ap packs (sixteen-word (p .1 .0) (p .1 .1)) ∙ sym (p .1 .2))
-answered (refused q) room b = refl
-
-pub roomy : (o : Outcome (List ℕ)) (room : ℕ) → Blocky o room → Roomy (blockOf o) room
-roomy (done bs) room b = b bs refl .0
-roomy (refused q) room b = tt
-
--- ---- an outcome that is a PIN, as the answer that is written
-
--- its value, where it has one, is at most twelve digits, and there is room for them
-abbrev pub Digital : Outcome (List ℕ) → ℕ → Type 0
-Digital o room = (ds : List ℕ) → o ≡ done ds → (length ds ≤ 12) × (length ds ≤ room) × Below 16 ds
-
-pub answered-digits : (o : Outcome (List ℕ)) (room : ℕ) → Digital o room → digitsIn (readingOf o) ≡ o
-answered-digits (done ds) room d = ap done (row-word ds (d ds refl .2))
-answered-digits (refused q) room d = refl
-
-pub roomy-digits : (o : Outcome (List ℕ)) (room : ℕ) → Digital o room → RoomyDigits (readingOf o) room
-roomy-digits (done ds) room d = (d ds refl .0, d ds refl .1)
-roomy-digits (refused q) room d = tt
-
-pub read-digital : (code : ℕ) (block account : List ℕ) (room : ℕ) → Digital (readBlock code block account room) room
-read-digital code block account room ds e =
-    let c = call-read code block account room ds e in
-    (c .1 .short, omega (arith, c .0, c .1 .short), below-weaken 10 16 ds (lit≤ tt) (c .1 .digits))

@@ -5,12 +5,12 @@ use mathlib.Core.List.{List, _++_, map}
 use mathlib.Core.Bool.{Bool, true, false, _&&_}
 use lib.ListN.{length, getD, drop}
 use lib.Seq.{slice}
-use lib.Dec.{leb, eqb}
-use Rattle.nibbles.specs.Nibbles.{packs, xors, within, every, leading}
-use Rattle.numbers.specs.Numbers.{Outcome, done, andThen, unless}
-use Rattle.numbers.specs.declared.Refusal.the-variants.{Block20, Room901}
-use Rattle.formats.specs.Formats.{leadOf, fillRead, fillWritten, veiled, leads, leadWidth, fits, filled, codeOf, formatOf, blockWidth}
-use Rattle.pins.specs.Pins.{digit, pinLength, pinHanded, accountOf, accountField, sized}
+use lib.Dec.{eqb}
+use Rattle.nibbles.specs.Nibbles.{xors, within, every, leading}
+use Rattle.numbers.specs.Numbers.{Outcome, andThen, unless}
+use Rattle.numbers.specs.declared.Refusal.the-variants.{Block20}
+use Rattle.formats.specs.Formats.{leadOf, fillRead, fillWritten, veiled, leads, leadWidth, fits, filled}
+use Rattle.pins.specs.Pins.{digit, pinLength}
 use Rattle.formats.specs.declared.Format.{Format}
 use Rattle.formats.specs.declared.Lead.{Lead}
 use Rattle.formats.specs.declared.Lead.the-variants.{Bare, Control}
@@ -52,22 +52,3 @@ clearRow f ds fill =
 -- writing
 unfoldable pub writeRow : Format → List ℕ → List ℕ → List ℕ → List ℕ
 writeRow f with ds fill = veil (veiled f) with (clearRow f ds fill)
-
--- the call that reads a block: 901, 15 for block and account, 23, 69, the block
-unfoldable pub readBlock : ℕ → List ℕ → List ℕ → ℕ → Outcome (List ℕ)
-readBlock code block account room =
-    andThen (unless Room901 (leb 12 room) room)
-    (λ _. andThen (sized (blockWidth code) block)
-    (λ ns. andThen (accountOf account)
-    (λ digits. andThen (formatOf (codeOf code))
-    (λ f. readRow f (accountField digits) ns))))
-
--- the call that writes a block: 901, 15 for account and fill, 23, 69, 24, 20
-unfoldable pub writeBlock : ℕ → List ℕ → List ℕ → List ℕ → ℕ → Outcome (List ℕ)
-writeBlock code pin account fill room =
-    andThen (unless Room901 (leb (blockWidth code) room) room)
-    (λ _. andThen (accountOf account)
-    (λ digits. andThen (sized 8 fill)
-    (λ fs. andThen (formatOf (codeOf code))
-    (λ f. andThen (pinHanded pin)
-    (λ ds. done (packs (writeRow f (accountField digits) ds fs)))))))

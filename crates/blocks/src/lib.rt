@@ -1,25 +1,22 @@
-// Reading and writing PIN blocks of the six formats: one pair of functions over the table of formats, and the two calls.
+// Reading and writing PIN blocks of the six formats: one pair of functions over the table of formats.
 ghost use mathlib.Core.Path.{_≡_};
 ghost use mathlib.Core.List.{_++_, map};
 ghost use Prim.Native.Nat.{_+_, _^_, _<_, _≤_};
 ghost use lib.ListN.{length, drop};
 ghost use lib.Seq.{slice};
 ghost use Rattle.nibbles.specs.Nibbles.{word, row, within, leading};
-ghost use Rattle.numbers.specs.Promise.{Does, quietly};
 ghost use Rattle.formats.specs.Formats.{leads, filled, veiled};
 ghost use Rattle.pins.specs.Answers.{countOf, readingOf};
-ghost use Rattle.blocks.specs.Blocks.{veil, counted, contents, readRow, writeRow, readBlock, writeBlock};
-ghost use Rattle.blocks.specs.Answers.{blockOf, bytesOf, Roomy, digitsIn, RoomyDigits, digitsOf, Proper};
-use formats::Chosen;
+ghost use Rattle.answers.specs.Answers.{digitsOf};
+ghost use Rattle.blocks.specs.Blocks.{veil, counted, contents, readRow, writeRow};
+ghost use Rattle.blocks.specs.Answers.{Proper};
 use formats::Fill;
 use formats::Format;
 use formats::Lead;
 use numbers::Refusal;
-use numbers::Reply;
 use pins::Count;
 use pins::Pin;
 use pins::Reading;
-use pins::Row;
 
 // A row of sixteen F.
 const ALL_F: u64 = 0xffff_ffff_ffff_ffff;
@@ -147,92 +144,4 @@ pub fn write(f: Format, with: u64, pin: Pin, fill: u64) -> u64
         fill_from(f.fill_written(), fill, from),
     );
     under_veil(f, with, clear)
-}
-
-// Answers with a block, or with the refusal that stands in its place.
-pub fn answer(judged: Row, out: &mut [u8]) -> Reply
-    requires { ⌜ Roomy judged (length (now out)) ⌝ }
-    ensures { λ r. ⌜ Does (quietly (bytesOf judged)) (now (out .entry)) r (now (out .exit)) ⌝ }
-{
-    let Row::Held(row) = judged else {
-        return Reply::refused(judged.refusal());
-    };
-    nibbles::put_bytes(row, out);
-    Reply::done(8)
-}
-
-// Answers with a PIN's digits as values, or with the refusal that stands in their place.
-pub fn answer_digits(judged: Reading, out: &mut [u8]) -> Reply
-    requires { ⌜ RoomyDigits judged (length (now out)) ⌝ }
-    ensures { λ r. ⌜ Does (quietly (digitsIn judged)) (now (out .entry)) r (now (out .exit)) ⌝ }
-{
-    let Reading::Got(pin) = judged else {
-        return Reply::refused(judged.refusal());
-    };
-    nibbles::put_nibbles(pin.digits, pin.length, out);
-    Reply::done(pin.length as u32)
-}
-
-// Judges the call that reads a block: 901, 15 for block and account, 23, 69, the block.
-fn judged_reading(format: u32, block: &[u8], account: &[u8], room: usize) -> Reading
-    ensures { λ r. ⌜ r ≡ readingOf (readBlock format (now (block .entry)) (now (account .entry)) room) ⌝ }
-{
-    if room < 12 {
-        return Reading::Bad(Refusal::Room901);
-    }
-    let sized = pins::sized_row(block, formats::block_width(format));
-    let Row::Held(row) = sized else {
-        return Reading::Bad(Refusal::Field15);
-    };
-    let kept = pins::account(account);
-    let Row::Held(digits) = kept else {
-        return Reading::Bad(Refusal::Field15);
-    };
-    let chosen = Chosen::by(format);
-    let Chosen::Of(f) = chosen else {
-        return Reading::Bad(chosen.refusal());
-    };
-    read(f, pins::field(digits), row)
-}
-
-// Reads a block and writes the PIN's digits as values.
-pub fn read_block(format: u32, block: &[u8], account: &[u8], out: &mut [u8]) -> Reply
-    ensures { λ r. ⌜ Does (quietly (readBlock format (now (block .entry)) (now (account .entry)) (length (now (out .entry))))) (now (out .entry)) r (now (out .exit)) ⌝ }
-{
-    let judged = judged_reading(format, block, account, out.len());
-    answer_digits(judged, out)
-}
-
-// Judges the call that writes a block: 901, 15 for account and fill, 23, 69, 24, 20.
-fn judged_writing(format: u32, pin: &[u8], account: &[u8], fill: &[u8], room: usize) -> Row
-    ensures { λ r. ⌜ r ≡ blockOf (writeBlock format (now (pin .entry)) (now (account .entry)) (now (fill .entry)) room) ⌝ }
-{
-    if room < formats::block_width(format) {
-        return Row::Refused(Refusal::Room901);
-    }
-    let kept = pins::account(account);
-    let Row::Held(digits) = kept else {
-        return Row::Refused(Refusal::Field15);
-    };
-    let sized = pins::sized_row(fill, 8);
-    let Row::Held(row) = sized else {
-        return Row::Refused(Refusal::Field15);
-    };
-    let chosen = Chosen::by(format);
-    let Chosen::Of(f) = chosen else {
-        return Row::Refused(chosen.refusal());
-    };
-    let handed = pins::handed(pin);
-    let Reading::Got(digits_of_pin) = handed else {
-        return Row::Refused(handed.refusal());
-    };
-    Row::Held(write(f, pins::field(digits), digits_of_pin, row))
-}
-
-// Writes the block of a PIN that is handed in as digits.
-pub fn write_block(format: u32, pin: &[u8], account: &[u8], fill: &[u8], out: &mut [u8]) -> Reply
-    ensures { λ r. ⌜ Does (quietly (writeBlock format (now (pin .entry)) (now (account .entry)) (now (fill .entry)) (length (now (out .entry))))) (now (out .entry)) r (now (out .exit)) ⌝ }
-{
-    let judged = judged_writing(format, pin, account, fill, out.len());
-    answer(judged, out)
 }

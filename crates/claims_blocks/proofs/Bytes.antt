@@ -13,7 +13,7 @@ use Rattle.nibbles.proofs.Runs.{every-below, inside}
 use Rattle.numbers.specs.Numbers.{done}
 use Rattle.pins.specs.Pins.{pinHanded}
 use Rattle.pins.proofs.Laws.{Pinned, handed-done}
-use Rattle.blocks.proofs.Laws.{Sixteen}
+use Rattle.answers.proofs.Laws.{Sixteen}
 use Rattle.claims_blocks.specs.Claims.{IsPin, IsRow, IsBytes}
 
 below-every : (m : ℕ) (ns : List ℕ) → Below (suc m) ns → every (within 0 m) ns ≡ true

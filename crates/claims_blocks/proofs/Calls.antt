@@ -18,8 +18,11 @@ use Rattle.formats.specs.declared.Format.{Format}
 use Rattle.formats.specs.declared.Format.the-variants.{F03}
 use Rattle.formats.specs.declared.Code.the-variants.{Built}
 use Rattle.pins.specs.Pins.{pinHanded, accountOf, accountField}
-use Rattle.blocks.specs.Blocks.{veil, readRow, writeRow, readBlock, writeBlock}
-use Rattle.blocks.proofs.Laws.{Sixteen, written-row, field-sixteen, sixteen-nibs, sixteen-bytes, call-read}
+use Rattle.blocks.specs.Blocks.{veil, readRow, writeRow}
+use Rattle.blockcalls.specs.BlockCalls.{readBlock, writeBlock}
+use Rattle.answers.proofs.Laws.{Sixteen, field-sixteen, sixteen-nibs, sixteen-bytes}
+use Rattle.blocks.proofs.Laws.{written-row}
+use Rattle.blockcalls.proofs.Laws.{call-read}
 use Rattle.restriction.specs.Restriction.{permitted}
 use Rattle.pairs.specs.Pairs.{pairOf}
 use Rattle.translation.specs.Translation.{translateBlock}

@@ -18,7 +18,8 @@ use Rattle.formats.specs.declared.Code.the-variants.{Built, Known, Unknown}
 use Rattle.formats.specs.declared.Format.{Format}
 use Rattle.formats.specs.declared.Format.the-variants.{F01, F03, F05, F34, F35, F47}
 use Rattle.pins.specs.Pins.{digit, pinLength, digitsHanded, pinHanded, accountField}
-use Rattle.blocks.specs.Blocks.{readRow, writeRow, readBlock, writeBlock}
+use Rattle.blocks.specs.Blocks.{readRow, writeRow}
+use Rattle.blockcalls.specs.BlockCalls.{readBlock, writeBlock}
 use Rattle.restriction.specs.Restriction.{restrictedPair, permitted}
 use Rattle.pairs.specs.Pairs.{pairOf}
 use Rattle.translation.specs.Translation.{translateBlock}

@@ -6,7 +6,8 @@ use lib.ListN.{length}
 use borrow.Author.Tests.{le-leb, eq-eqb}
 use Rattle.nibbles.specs.Nibbles.{nibs}
 use Rattle.formats.specs.Formats.{codeOf}
-use Rattle.blocks.specs.Blocks.{readRow, readBlock}
+use Rattle.blocks.specs.Blocks.{readRow}
+use Rattle.blockcalls.specs.BlockCalls.{readBlock}
 use Rattle.claims_blocks.specs.Figures.{Begins2D}
 
 pub begins-2D : Begins2D

@@ -19,7 +19,8 @@ use Rattle.formats.specs.declared.Code.{Code}
 use Rattle.formats.specs.declared.Code.the-variants.{Built, Known, Unknown}
 use Rattle.formats.specs.declared.Format.{Format}
 use Rattle.pins.specs.Pins.{digit, pinLength, digitsHanded, pinHanded, padded, accountOf, accountField, sized}
-use Rattle.blocks.specs.Blocks.{readRow, writeRow, readBlock, writeBlock}
+use Rattle.blocks.specs.Blocks.{readRow, writeRow}
+use Rattle.blockcalls.specs.BlockCalls.{readBlock, writeBlock}
 use Rattle.restriction.specs.Restriction.{permitted}
 use Rattle.pairs.specs.Pairs.{pairOf}
 use Rattle.translation.specs.Translation.{translateBlock}

@@ -13,7 +13,8 @@ use Rattle.numbers.specs.Numbers.{Outcome, done}
 use Rattle.numbers.specs.Promise.{Does, quietly}
 use Rattle.numbers.specs.declared.Reply.{Reply}
 use Rattle.formats.specs.Formats.{codeOf}
-use Rattle.blocks.specs.Blocks.{contents, readRow, writeRow, readBlock, writeBlock}
+use Rattle.blocks.specs.Blocks.{contents, readRow, writeRow}
+use Rattle.blockcalls.specs.BlockCalls.{readBlock, writeBlock}
 use Rattle.pairs.specs.Pairs.{pairOf}
 use Rattle.translation.specs.Translation.{translateBlock}
 use Rattle.claims_blocks.specs.Claims.{IsBytes}

@@ -10,7 +10,8 @@ use Rattle.numbers.specs.Numbers.{Outcome, done, refused}
 use Rattle.numbers.specs.declared.Refusal.the-variants.{Block20, Length24}
 use Rattle.formats.specs.Formats.{leadOf, codeOf}
 use Rattle.pins.specs.Pins.{accountOf}
-use Rattle.blocks.specs.Blocks.{readRow, writeRow, readBlock, writeBlock}
+use Rattle.blocks.specs.Blocks.{readRow, writeRow}
+use Rattle.blockcalls.specs.BlockCalls.{readBlock, writeBlock}
 use Rattle.formats.specs.declared.Format.{Format}
 use Rattle.formats.specs.declared.Format.the-variants.{F01, F03, F05, F34, F35, F47}
 use Rattle.formats.specs.declared.Lead.{Lead}

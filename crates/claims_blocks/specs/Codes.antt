@@ -9,7 +9,7 @@ use lib.Dec.{eqb}
 use Rattle.numbers.specs.Numbers.{done}
 use Rattle.numbers.specs.Promise.{Said}
 use Rattle.pins.specs.Pins.{accountOf}
-use Rattle.blocks.specs.Blocks.{readBlock}
+use Rattle.blockcalls.specs.BlockCalls.{readBlock}
 use Rattle.claims_blocks.specs.Claims.{IsBytes}
 use Rattle.claims_blocks.specs.Promises.{listed, reads, writes, translates}
 

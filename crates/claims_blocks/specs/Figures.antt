@@ -7,7 +7,7 @@ use lib.ListN.{length}
 use Rattle.numbers.specs.Numbers.{done, refused}
 use Rattle.numbers.specs.declared.Refusal.the-variants.{Length24}
 use Rattle.pins.specs.Pins.{accountOf}
-use Rattle.blocks.specs.Blocks.{readBlock}
+use Rattle.blockcalls.specs.BlockCalls.{readBlock}
 
 abbrev pub usualAccount : List ℕ
 usualAccount = 0x34 ∷ 0x30 ∷ 0x30 ∷ 0x30 ∷ 0x30 ∷ 0x30 ∷ 0x31 ∷ 0x32 ∷ 0x33 ∷ 0x34 ∷ 0x35 ∷ 0x36 ∷ []

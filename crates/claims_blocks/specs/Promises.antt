@@ -7,7 +7,7 @@ use lib.ListN.{length, replicate}
 use lib.Dec.{eqb}
 use Rattle.numbers.specs.Promise.{Said, Does, quietly}
 use Rattle.numbers.specs.declared.Reply.{Reply}
-use Rattle.blocks.specs.Blocks.{readBlock, writeBlock}
+use Rattle.blockcalls.specs.BlockCalls.{readBlock, writeBlock}
 use Rattle.translation.specs.Translation.{translateBlock}
 use Rattle.claims_blocks.specs.Claims.{IsBytes}
 use Rattle.claims_blocks.specs.Figures.{usualAccount, usualPin, longPin, blockP1, blockP6}

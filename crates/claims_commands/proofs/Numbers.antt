@@ -20,7 +20,7 @@ use Rattle.settings.specs.declared.Settings.{Settings}
 use Rattle.formats.specs.declared.Format.{Format}
 use Rattle.pins.specs.Pins.{accountField, sized}
 use Rattle.blocks.specs.Blocks.{readRow}
-use Rattle.blocks.proofs.Laws.{sixteen-bytes}
+use Rattle.answers.proofs.Laws.{sixteen-bytes}
 use Rattle.validation.specs.Validation.{validationRow}
 use Rattle.naturals.specs.Naturals.{naturalOf}
 use Rattle.ibm3624.specs.Ibm3624.{covers, offsetOf}

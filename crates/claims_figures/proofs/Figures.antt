@@ -8,7 +8,8 @@ use lib.ListN.{length, getD, drop}
 use Rattle.nibbles.specs.Nibbles.{nibs, packs, xors, every, leading}
 use Rattle.alphabet.specs.Alphabet.{allOf, valueOf}
 use Rattle.formats.specs.Formats.{codeOf}
-use Rattle.blocks.specs.Blocks.{contents, readRow, writeRow, readBlock, writeBlock}
+use Rattle.blocks.specs.Blocks.{contents, readRow, writeRow}
+use Rattle.blockcalls.specs.BlockCalls.{readBlock, writeBlock}
 use Rattle.validation.specs.Validation.{shapeOf, validationRow, validationBlock}
 use Rattle.naturals.specs.Naturals.{naturalPin}
 use Rattle.ibm3624.specs.Ibm3624.{differences}

@@ -6,7 +6,7 @@ use mathlib.Core.Bool.{false}
 use lib.ListN.{length, replicate}
 use Rattle.numbers.specs.Numbers.{Outcome}
 use Rattle.numbers.specs.Promise.{Said, quietly}
-use Rattle.blocks.specs.Blocks.{readBlock, writeBlock}
+use Rattle.blockcalls.specs.BlockCalls.{readBlock, writeBlock}
 use Rattle.validation.specs.Validation.{validationBlock}
 use Rattle.naturals.specs.Naturals.{naturalPin}
 use Rattle.offsets.specs.Offsets.{offsetMade, offsetOfDigits}

@@ -1,6 +1,6 @@
 -- One answer to every promise of the crates of PIN blocks: each function cites the law of its shape.
 -- Assumes nothing.
-use Rattle.claims_functions.specs.Blocks.{RestrictionSettled, PairsSettled, BlocksSettled, TranslationSettled, ValidationSettled, NaturalsSettled, Ibm3624Settled, OffsetTextsSettled, PvvDigitsSettled, PvvInputSettled, PvvSettled, OffsetsSettled, VerdictsSettled}
+use Rattle.claims_functions.specs.Blocks.{RestrictionSettled, PairsSettled, AnswersSettled, BlocksSettled, BlockCallsSettled, TranslationSettled, ValidationSettled, NaturalsSettled, Ibm3624Settled, OffsetTextsSettled, PvvDigitsSettled, PvvInputSettled, PvvSettled, OffsetsSettled, VerdictsSettled}
 use Rattle.claims_functions.proofs.Once.{settled, left, answered, verdict}
 
 pub restriction-once : RestrictionSettled
@@ -14,12 +14,20 @@ pairs-once = record {
   Pair·refusal = λ κs a r r′ ends ends′. settled;
 }
 
+pub answers-once : AnswersSettled
+answers-once = record {
+  answer = λ κs a r r′ ends ends′. answered 1;
+  answer-digits = λ κs a r r′ ends ends′. answered 1;
+}
+
 pub blocks-once : BlocksSettled
 blocks-once = record {
   read = λ κs a r r′ ends ends′. settled;
   write = λ κs a r r′ ends ends′. settled;
-  answer = λ κs a r r′ ends ends′. answered 1;
-  answer-digits = λ κs a r r′ ends ends′. answered 1;
+}
+
+pub blockcalls-once : BlockCallsSettled
+blockcalls-once = record {
   read-block = λ κs a r r′ ends ends′. answered 3;
   write-block = λ κs a r r′ ends ends′. answered 4;
 }

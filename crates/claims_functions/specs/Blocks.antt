@@ -3,7 +3,9 @@
 -- requires: outside it a contract promises nothing.
 use Rattle.restriction.proofs as Restriction
 use Rattle.pairs.proofs as Pairs
+use Rattle.answers.proofs as Answers
 use Rattle.blocks.proofs as Blocks
+use Rattle.blockcalls.proofs as BlockCalls
 use Rattle.translation.proofs as Translation
 use Rattle.validation.proofs as Validation
 use Rattle.naturals.proofs as Naturals
@@ -25,14 +27,20 @@ pub record PairsSettled : Type 0 where
   pub Pair·by : Settled Pairs.Pair.by.ended Pairs.Pair.by.Reads.Learnt
   pub Pair·refusal : Settled Pairs.Pair.refusal.ended Pairs.Pair.refusal.Reads.Learnt
 
+-- every public function of answers
+pub record AnswersSettled : Type 0 where
+  pub answer : Settled Answers.answer.ended Answers.answer.Reads.Learnt
+  pub answer-digits : Settled Answers.answer_digits.ended Answers.answer_digits.Reads.Learnt
+
 -- every public function of blocks
 pub record BlocksSettled : Type 0 where
   pub read : Settled Blocks.read.ended Blocks.read.Reads.Learnt
   pub write : Settled Blocks.write.ended Blocks.write.Reads.Learnt
-  pub answer : Settled Blocks.answer.ended Blocks.answer.Reads.Learnt
-  pub answer-digits : Settled Blocks.answer_digits.ended Blocks.answer_digits.Reads.Learnt
-  pub read-block : Settled Blocks.read_block.ended Blocks.read_block.Reads.Learnt
-  pub write-block : Settled Blocks.write_block.ended Blocks.write_block.Reads.Learnt
+
+-- every public function of blockcalls
+pub record BlockCallsSettled : Type 0 where
+  pub read-block : Settled BlockCalls.read_block.ended BlockCalls.read_block.Reads.Learnt
+  pub write-block : Settled BlockCalls.write_block.ended BlockCalls.write_block.Reads.Learnt
 
 -- every public function of translation
 pub record TranslationSettled : Type 0 where

@@ -18,7 +18,8 @@ use Rattle.formats.specs.Formats.{codeOf, formatOf}
 use Rattle.pins.specs.Pins.{lastOf, accountOf, accountField, sized}
 use Rattle.pins.proofs.Laws.{sized-done, account-done}
 use Rattle.blocks.specs.Blocks.{readRow}
-use Rattle.blocks.proofs.Laws.{Blocky, read-pinned, sixteen-bytes, bytes-sixteen}
+use Rattle.answers.proofs.Laws.{Blocky, sixteen-bytes, bytes-sixteen}
+use Rattle.blocks.proofs.Laws.{read-pinned}
 use Rattle.naturals.specs.Naturals.{tableSized, tableOf, naturalPin}
 use Rattle.ibm3624.specs.Ibm3624.{checkLength, covers, differences, covered, moduloTen, offsetOf}
 use Rattle.offsettexts.specs.OffsetTexts.{offsetText}

@@ -16,8 +16,8 @@ use Rattle.numbers.specs.Promise.{quietly}
 use Rattle.numbers.specs.declared.Refusal.{Refusal}
 use Rattle.numbers.specs.declared.Refusal.the-variants.{Unverified01, WeakList03, PinKeyParity10, PvkParity11, Field15, Block20, Format23, Length24, Table25, Key26, Use29, Code68, NotHere69, Check81, Weak86, Room901, Frame902}
 use Rattle.pins.specs.Pins.{pinLength, accountOf, sized}
-use Rattle.blocks.specs.Blocks.{readBlock, writeBlock}
-use Rattle.blocks.proofs.Laws.{call-read, call-written}
+use Rattle.blockcalls.specs.BlockCalls.{readBlock, writeBlock}
+use Rattle.blockcalls.proofs.Laws.{call-read, call-written}
 use Rattle.translation.specs.Translation.{translateBlock}
 use Rattle.translation.proofs.Laws.{call-translated}
 use Rattle.validation.specs.Validation.{validationRow, validationBlock}

@@ -16,7 +16,7 @@ use Rattle.numbers.specs.declared.Refusal.the-variants.{Room901, Frame902}
 use Rattle.numbers.specs.declared.Reply.{Reply}
 use Rattle.numbers.proofs.Laws.{then-done, passed}
 use Rattle.settings.specs.declared.Settings.{Settings}
-use Rattle.blocks.proofs.Laws.{Sixteen}
+use Rattle.answers.proofs.Laws.{Sixteen}
 use Rattle.frame.specs.Frame.{isFramed, framed, codeOf}
 use Rattle.frame.specs.declared.Code.{Code}
 use Rattle.frame.specs.declared.Code.the-variants.{Bk, Other}

@@ -16,7 +16,7 @@ use Rattle.numbers.specs.declared.Refusal.the-variants.{Field15}
 use Rattle.numbers.proofs.Laws.{then-done, value-of}
 use Rattle.pins.specs.Pins.{sized}
 use Rattle.pins.proofs.Laws.{sized-done}
-use Rattle.blocks.proofs.Laws.{bytes-sixteen, sixteen-word}
+use Rattle.answers.proofs.Laws.{bytes-sixteen, sixteen-word}
 use Rattle.fields.specs.Fields.{Ruling, pointing, unpointed, heard}
 use Rattle.fields.specs.declared.Fault.{Fault}
 use Rattle.keybox.specs.KeyBox.{slices, parities, boxed}

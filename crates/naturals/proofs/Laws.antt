@@ -22,7 +22,7 @@ use Rattle.numbers.specs.declared.Refusal.the-variants.{Field15, Length24, Tabl
 use Rattle.numbers.proofs.Laws.{passed, then-done, value-of}
 use Rattle.pins.specs.Pins.{pinLength, sized}
 use Rattle.pins.proofs.Laws.{block-row}
-use Rattle.blocks.proofs.Laws.{Digital}
+use Rattle.answers.proofs.Laws.{Digital}
 
 -- ---- the natural PIN
 

@@ -64,5 +64,5 @@ pub fn natural_pin(length: u32, table: &[u8], enciphered: &[u8], out: &mut [u8])
     ensures { λ r. ⌜ Does (quietly (naturalPin length (now (table .entry)) (now (enciphered .entry)) (lib.ListN.length (now (out .entry))))) (now (out .entry)) r (now (out .exit)) ⌝ }
 {
     let judged = judged_natural(length, table, enciphered, out.len());
-    blocks::answer_digits(judged, out)
+    answers::answer_digits(judged, out)
 }

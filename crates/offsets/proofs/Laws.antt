@@ -24,7 +24,8 @@ use Rattle.formats.specs.Formats.{codeOf, formatOf}
 use Rattle.formats.specs.declared.Format.{Format}
 use Rattle.pins.proofs.Laws.{Pinned, handed-done, account-done, digits-below, through, then-alike}
 use Rattle.blocks.specs.Blocks.{readRow}
-use Rattle.blocks.proofs.Laws.{Sixteen, bytes-sixteen, sixteen-word, read-pinned}
+use Rattle.answers.proofs.Laws.{Sixteen, bytes-sixteen, sixteen-word}
+use Rattle.blocks.proofs.Laws.{read-pinned}
 use Rattle.pins.specs.Answers.{readingOf}
 use Rattle.naturals.specs.Naturals.{tableOf, naturalHanded, tableSized}
 use Rattle.ibm3624.specs.Ibm3624.{covered, offsetOf, checkLength, covers}

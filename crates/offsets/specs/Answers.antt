@@ -11,7 +11,7 @@ use Rattle.numbers.specs.declared.Refusal.the-variants.{Field15}
 use Rattle.pins.specs.Pins.{digit}
 use Rattle.pins.specs.declared.Reading.{Reading}
 use Rattle.pins.specs.declared.Reading.the-variants as reading
-use Rattle.blocks.specs.Answers.{digitsOf}
+use Rattle.answers.specs.Answers.{digitsOf}
 use Rattle.offsettexts.specs.OffsetTexts.{offsetText}
 use Rattle.offsets.specs.declared.Rows.{Rows}
 use Rattle.offsets.specs.declared.Given.{Given}

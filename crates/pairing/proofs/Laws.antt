@@ -15,8 +15,8 @@ use Rattle.numbers.proofs.Laws.{then-done, value-of}
 use Rattle.pins.specs.Pins.{digit}
 use Rattle.pins.specs.Answers.{rowOf}
 use Rattle.pins.proofs.Laws.{digits-below}
-use Rattle.blocks.specs.Answers.{blockOf}
-use Rattle.blocks.proofs.Laws.{Sixteen}
+use Rattle.answers.specs.Answers.{blockOf}
+use Rattle.answers.proofs.Laws.{Sixteen}
 use Rattle.validation.specs.Validation.{validationRow}
 use Rattle.validation.proofs.Laws.{row-sixteen, row-block}
 use Rattle.naturals.specs.Answers.{Decimal}

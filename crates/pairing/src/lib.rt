@@ -1,7 +1,7 @@
 // PIN and natural PIN of a command, from the places of its fields: what the key box is asked for, and what its answers come to.
 ghost use mathlib.Core.Path.{_≡_};
 ghost use Rattle.nibbles.specs.Nibbles.{word};
-ghost use Rattle.blocks.specs.Answers.{blockOf};
+ghost use Rattle.answers.specs.Answers.{blockOf};
 ghost use Rattle.offsets.specs.Answers.{comparisonOf};
 ghost use Rattle.offsetting.specs.Offsetting.{accountIn};
 ghost use Rattle.pairing.specs.Pairing.{askedAt, pairAt};

@@ -19,17 +19,15 @@ use Rattle.alphabet.proofs.Laws.{value-below}
 use Rattle.numbers.specs.Numbers.{Outcome, done, refused, unless, andThen}
 use Rattle.numbers.specs.declared.Refusal.{Refusal}
 use Rattle.numbers.specs.declared.Refusal.the-variants.{Unverified01, Field15, Room901}
-use Rattle.numbers.specs.Promise.{Does, quietly}
-use Rattle.numbers.specs.declared.Reply.{Reply}
-use Rattle.numbers.proofs.Laws.{then-done, passed, failed, value-of, does-as}
+use Rattle.numbers.proofs.Laws.{then-done, passed, failed, value-of}
 use Rattle.formats.specs.Formats.{codeOf, formatOf}
 use Rattle.pins.specs.Pins.{lastOf, accountOf, accountField, sized, verdict}
 use Rattle.pins.specs.Answers.{rowOf}
 use Rattle.pins.specs.declared.Row.{Row}
 use Rattle.pins.specs.declared.Row.the-variants.{Held, Refused}
 use Rattle.pins.proofs.Laws.{through, then-alike, Pinned, sized-done, account-done, account-under, account-row, block-row, row-held, row-refused}
-use Rattle.blocks.specs.Answers.{blockOf, bytesOf, Roomy}
-use Rattle.blocks.proofs.Laws.{Blocky, answered, roomy, Sixteen, read-pinned}
+use Rattle.answers.proofs.Laws.{Blocky, Sixteen}
+use Rattle.blocks.proofs.Laws.{read-pinned}
 use Rattle.pvvdigits.specs.PvvDigits.{pvvOf}
 use Rattle.pvvdigits.proofs.Laws.{below-append}
 use Rattle.pvvinput.specs.PvvInput.{inputRow, keyIndex}
@@ -142,14 +140,6 @@ call-input code index block account room bs e =
         sym (value-of (d .2)),
       ),
     )
-
--- an answer of that outcome has room, and is what the call says
-module _ (o : Outcome (List ℕ)) (room : ℕ) (blocky : Blocky o room) (j : Row) (e : j ≡ blockOf o) where
-  pub answer-room : Roomy j room
-  answer-room = rw e (roomy o room blocky)
-
-  pub answer-says : {before after : List ℕ} {r : Reply} → Does (quietly (bytesOf j)) before r after → Does (quietly o) before r after
-  answer-says d = does-as (bytesOf j) o (ap bytesOf e ∙ answered o room blocky) d
 
 -- ---- the outcome behind a row
 

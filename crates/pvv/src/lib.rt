@@ -6,7 +6,7 @@ ghost use lib.ListN.{length};
 ghost use Rattle.nibbles.specs.Nibbles.{row};
 ghost use Rattle.numbers.specs.Promise.{Does, quietly};
 ghost use Rattle.pins.specs.Answers.{readingOf, rowOf, verdictOf};
-ghost use Rattle.blocks.specs.Answers.{blockOf};
+ghost use Rattle.answers.specs.Answers.{blockOf};
 ghost use Rattle.pvv.specs.Pvv.{presented, pvvGiven, pinRead, pvvInput, pvvMade, pvvVerdict};
 ghost use Rattle.pvv.specs.Answers.{givenOf, fieldsRefusal, rowsIn};
 use alphabet::Class;
@@ -99,7 +99,7 @@ pub fn pvv_input(format: u32, index: u32, block: &[u8], account: &[u8], out: &mu
     ensures { λ r. ⌜ Does (quietly (pvvInput format index (now (block .entry)) (now (account .entry)) (length (now (out .entry))))) (now (out .entry)) r (now (out .exit)) ⌝ }
 {
     let judged = judged_input(format, index, block, account, out.len());
-    blocks::answer(judged, out)
+    answers::answer(judged, out)
 }
 
 // Makes the PVV of an enciphered input: four characters.

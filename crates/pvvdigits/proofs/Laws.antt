@@ -18,7 +18,7 @@ use Rattle.nibbles.proofs.Runs.{inside, under, over}
 use Rattle.alphabet.specs.Alphabet.{characters}
 use Rattle.pins.specs.Answers.{pinOf}
 use Rattle.pins.specs.declared.Pin.{Pin}
-use Rattle.blocks.specs.Answers.{digitsOf}
+use Rattle.answers.specs.Answers.{digitsOf}
 use Rattle.pvvdigits.specs.PvvDigits.{those, pvvOf}
 use Rattle.pvvdigits.specs.Answers.{Taken}
 

@@ -6,7 +6,7 @@ ghost use lib.ListN.{length, take};
 ghost use Rattle.nibbles.specs.Nibbles.{word, row, within, same};
 ghost use Rattle.pins.specs.Pins.{verdict};
 ghost use Rattle.pins.specs.Answers.{pinOf, verdictOf};
-ghost use Rattle.blocks.specs.Answers.{digitsOf};
+ghost use Rattle.answers.specs.Answers.{digitsOf};
 ghost use Rattle.pvvdigits.specs.PvvDigits.{those, pvvOf};
 ghost use Rattle.pvvdigits.specs.Answers.{Taken};
 use numbers::Refusal;

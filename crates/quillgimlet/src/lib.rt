@@ -2,7 +2,7 @@
 ghost use mathlib.Core.Path.{_≡_};
 ghost use lib.ListN.{length};
 ghost use Rattle.numbers.specs.Promise.{Does, quietly};
-ghost use Rattle.blocks.specs.Blocks.{readBlock, writeBlock};
+ghost use Rattle.blockcalls.specs.BlockCalls.{readBlock, writeBlock};
 ghost use mathlib.Core.List.{[]};
 ghost use Rattle.translation.specs.Translation.{translateBlock};
 ghost use Rattle.validation.specs.Validation.{validationBlock};
@@ -86,7 +86,7 @@ pub extern "C" fn qg_answer(
 pub extern "C" fn qg_read_block(format: u32, block: &[u8], account: &[u8], out: &mut [u8]) -> Reply
     ensures { λ r. ⌜ Does (quietly (readBlock format (now (block .entry)) (now (account .entry)) (length (now (out .entry))))) (now (out .entry)) r (now (out .exit)) ⌝ }
 {
-    blocks::read_block(format, block, account, out)
+    blockcalls::read_block(format, block, account, out)
 }
 
 #[no_mangle]
@@ -99,7 +99,7 @@ pub extern "C" fn qg_write_block(
 ) -> Reply
     ensures { λ r. ⌜ Does (quietly (writeBlock format (now (pin .entry)) (now (account .entry)) (now (fill .entry)) (length (now (out .entry))))) (now (out .entry)) r (now (out .exit)) ⌝ }
 {
-    blocks::write_block(format, pin, account, fill, out)
+    blockcalls::write_block(format, pin, account, fill, out)
 }
 
 #[no_mangle]

@@ -15,8 +15,8 @@ use Rattle.numbers.specs.Promise.{Does}
 use Rattle.numbers.specs.declared.Refusal.{Refusal}
 use Rattle.numbers.specs.declared.Reply.{Reply}
 use Rattle.pins.specs.declared.Pin.{Pin}
-use Rattle.blocks.specs.Answers.{blockOf, digitsOf}
-use Rattle.blocks.proofs.Laws.{Sixteen, sixteen-word, sixteen-nibs}
+use Rattle.answers.specs.Answers.{blockOf, digitsOf}
+use Rattle.answers.proofs.Laws.{Sixteen, sixteen-word, sixteen-nibs}
 use Rattle.offsettexts.specs.OffsetTexts.{offsetText}
 use Rattle.offsettexts.proofs.Laws.{text-length}
 use Rattle.frame.specs.Frame.{opening}

@@ -8,7 +8,7 @@ use Rattle.settings.specs.Settings.{longestHeader}
 use Rattle.pins.specs.Answers.{pinOf}
 use Rattle.pins.specs.declared.Row.{Row}
 use Rattle.pins.specs.declared.Row.the-variants.{Held, Refused}
-use Rattle.blocks.specs.Answers.{digitsOf}
+use Rattle.answers.specs.Answers.{digitsOf}
 use Rattle.offsettexts.specs.OffsetTexts.{offsetText}
 use Rattle.fields.specs.Fields.{Ruling}
 use Rattle.fields.specs.Answers.{noFault}

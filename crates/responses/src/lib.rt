@@ -73,7 +73,7 @@ pub fn ask(asked: Asked, out: &mut [u8]) -> Reply
         let refusal = fault.refusal;
         return Reply::refused(refusal);
     };
-    blocks::answer(Row::Held(row), out)
+    answers::answer(Row::Held(row), out)
 }
 
 // Writes a payload over the beginning of the output, and tells how many bytes it has: at most twelve.

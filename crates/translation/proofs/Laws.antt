@@ -12,7 +12,8 @@ use Rattle.numbers.specs.declared.Refusal.the-variants.{Room901}
 use Rattle.numbers.proofs.Laws.{then-done, passed, value-of}
 use Rattle.pins.specs.Pins.{accountOf, accountField, sized}
 use Rattle.blocks.specs.Blocks.{readRow, writeRow}
-use Rattle.blocks.proofs.Laws.{Blocky, read-pinned, written-row, field-sixteen, bytes-sixteen}
+use Rattle.answers.proofs.Laws.{Blocky, field-sixteen, bytes-sixteen}
+use Rattle.blocks.proofs.Laws.{read-pinned, written-row}
 use Rattle.pairs.specs.Pairs.{pairOf}
 use Rattle.translation.specs.Translation.{translateBlock}
 

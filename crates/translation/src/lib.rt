@@ -5,7 +5,7 @@ ghost use lib.ListN.{length};
 ghost use Rattle.nibbles.specs.Nibbles.{row};
 ghost use Rattle.numbers.specs.Promise.{Does, quietly};
 ghost use Rattle.pins.specs.Pins.{accountField};
-ghost use Rattle.blocks.specs.Answers.{blockOf};
+ghost use Rattle.answers.specs.Answers.{blockOf};
 ghost use Rattle.pairs.specs.Answers.{pairIn};
 ghost use Rattle.translation.specs.Translation.{carriedBlock, translateBlock};
 use numbers::Refusal;
@@ -74,5 +74,5 @@ pub fn translate(
     ensures { λ r. ⌜ Does (quietly (translateBlock (settings .restricted) from to (now (block .entry)) (now (account .entry)) (now (fill .entry)) (length (now (out .entry))))) (now (out .entry)) r (now (out .exit)) ⌝ }
 {
     let judgement = judged(settings, from, to, block, account, fill, out.len());
-    blocks::answer(judgement, out)
+    answers::answer(judgement, out)
 }

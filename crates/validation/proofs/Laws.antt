@@ -22,8 +22,8 @@ use Rattle.numbers.specs.declared.Refusal.the-variants.{Room901}
 use Rattle.pins.specs.Pins.{lastOf, accountOf}
 use Rattle.pins.specs.Answers.{rowOf}
 use Rattle.pins.proofs.Laws.{account-done}
-use Rattle.blocks.specs.Answers.{blockOf}
-use Rattle.blocks.proofs.Laws.{Sixteen, sixteen-nibs}
+use Rattle.answers.specs.Answers.{blockOf}
+use Rattle.answers.proofs.Laws.{Sixteen, sixteen-nibs}
 use Rattle.validation.specs.Validation.{letterP, letterN, hexEnd, isTemplate, isWhole, shapeOf, shapeWidth, formed, isValidation, replaced, shaped, validationRow, validationBlock}
 use Rattle.validation.specs.declared.Shape.{Shape}
 use Rattle.validation.specs.declared.Shape.the-variants.{Template, Whole, Neither}

@@ -6,7 +6,7 @@ ghost use lib.ListN.{length};
 ghost use Rattle.nibbles.specs.Nibbles.{word, row};
 ghost use Rattle.numbers.specs.Promise.{Does, quietly};
 ghost use Rattle.pins.specs.Answers.{rowOf};
-ghost use Rattle.blocks.specs.Answers.{blockOf};
+ghost use Rattle.answers.specs.Answers.{blockOf};
 ghost use Rattle.validation.specs.Validation.{hexEnd, isTemplate, isWhole, shapeOf, shapeWidth, replaced, validationRow, validationBlock};
 use alphabet::Class;
 use numbers::Refusal;
@@ -128,5 +128,5 @@ pub fn validation_block(validation: &[u8], account: &[u8], out: &mut [u8]) -> Re
     ensures { λ r. ⌜ Does (quietly (validationBlock (now (validation .entry)) (now (account .entry)) (length (now (out .entry))))) (now (out .entry)) r (now (out .exit)) ⌝ }
 {
     let judged = judged(validation, account, out.len());
-    blocks::answer(judged, out)
+    answers::answer(judged, out)
 }

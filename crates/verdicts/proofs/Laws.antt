@@ -17,7 +17,7 @@ use Rattle.pins.specs.Pins.{accountOf, accountField, sized}
 use Rattle.pins.proofs.Laws.{reading-got, through, then-alike}
 use Rattle.formats.specs.Formats.{codeOf, formatOf}
 use Rattle.blocks.specs.Blocks.{readRow}
-use Rattle.blocks.specs.Answers.{digitsOf}
+use Rattle.answers.specs.Answers.{digitsOf}
 use Rattle.nibbles.specs.Nibbles.{row, word, within, every, same}
 use Rattle.nibbles.proofs.Lists.{Below, below-weaken, same-refl, same-false, map-below}
 use Rattle.nibbles.proofs.Rows.{row-word, row-length, word-row, word-lt}

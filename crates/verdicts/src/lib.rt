@@ -4,7 +4,7 @@ ghost use mathlib.Core.List.{[]};
 ghost use Prim.Native.Nat.{_^_, _<_};
 ghost use Rattle.numbers.specs.Promise.{Does, quietly};
 ghost use Rattle.pins.specs.Answers.{verdictOf};
-ghost use Rattle.blocks.specs.Answers.{digitsOf};
+ghost use Rattle.answers.specs.Answers.{digitsOf};
 ghost use Rattle.offsets.specs.Answers.{pairIn, Fit};
 ghost use Rattle.verdicts.specs.Verdicts.{verdictOn, offsetVerdict};
 use numbers::Refusal;

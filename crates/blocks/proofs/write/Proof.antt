@@ -6,7 +6,7 @@ use mathlib.Core.List.{List, _++_, map}
 use mathlib.Core.Path.{ap, sym, _∙_, subst, ap₂}
 use lib.ListN.{drop}
 use borrow.Author.Needs.{needs}
-use Rattle.blocks.specs.Answers.{digitsOf}
+use Rattle.answers.specs.Answers.{digitsOf}
 use Rattle.formats.specs.declared.Fill.{Fill}
 use Rattle.blocks.proofs.Laws.{from-small, head-under, tail-under, joined}
 use Rattle.blocks.specs.Blocks.{veil, writeRow}

@@ -5,8 +5,8 @@ use lib.ListN.{length}
 use borrow.Author.Needs.{needs}
 use Rattle.naturals.proofs.Laws.{natural-digital}
 use Rattle.naturals.specs.Naturals.{naturalPin}
-use Rattle.blocks.proofs.Laws.{Digital, answered-digits, roomy-digits}
-use Rattle.blocks.specs.Answers.{digitsIn, RoomyDigits}
+use Rattle.answers.proofs.Laws.{Digital, answered-digits, roomy-digits}
+use Rattle.answers.specs.Answers.{digitsIn, RoomyDigits}
 use Rattle.nibbles.proofs.Bytes.{bytes-below}
 use Rattle.pins.specs.declared.Reading.{Reading}
 use Rattle.numbers.proofs.Laws.{does-as}

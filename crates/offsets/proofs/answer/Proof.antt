@@ -8,7 +8,7 @@ use borrow.Author.Needs.{needs}
 use Rattle.offsets.specs.Answers.{textOf, Roomy}
 use Rattle.offsettexts.proofs.Laws.{text-length}
 use Rattle.offsettexts.specs.OffsetTexts.{offsetText}
-use Rattle.blocks.specs.Answers.{digitsOf}
+use Rattle.answers.specs.Answers.{digitsOf}
 use Rattle.pins.specs.declared.Reading.{Reading}
 use Rattle.pins.specs.Answers.{refusalIn}
 use Rattle.numbers.proofs.Laws.{does-refuse, does-write}

@@ -8,7 +8,7 @@ use Rattle.pvv.proofs.Laws.{input-parts, fields-of, fields-bad, read-pi
 use Rattle.pvv.specs.Answers.{fieldsRefusal, rowsIn}
 use Rattle.pvvinput.specs.PvvInput.{inputRow}
 use Rattle.pvv.specs.Pvv.{pinRead, pvvInput}
-use Rattle.blocks.proofs.Laws.{sixteen-nibs}
+use Rattle.answers.proofs.Laws.{sixteen-nibs}
 use Rattle.pins.proofs.Laws.{reading-got, reading-bad}
 use Rattle.pins.specs.declared.Pin.{Pin}
 use Rattle.pins.specs.declared.Row.the-variants.{Held, Refused}

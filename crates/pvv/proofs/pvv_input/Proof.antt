@@ -2,9 +2,9 @@
 -- Assumes nothing.
 use lib.ListN.{length}
 use borrow.Author.Needs.{needs}
-use Rattle.pvv.proofs.Laws.{call-input, answer-room, answer-says}
+use Rattle.pvv.proofs.Laws.{call-input}
 use Rattle.pvv.specs.Pvv.{pvvInput}
-use Rattle.blocks.proofs.Laws.{Blocky}
+use Rattle.answers.proofs.Laws.{Blocky, answer-room, answer-says}
 use Rattle.pvv.proofs.pvv_input.Statement.{statement}
 use Rattle.pvv.proofs.pvv_input.Tie as tie
 

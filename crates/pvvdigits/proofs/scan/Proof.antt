@@ -9,7 +9,7 @@ use borrow.Author.Needs.{needs}
 use Rattle.pvvdigits.proofs.Laws.{found, found-nil, taken-kept, step-taken, step-rest}
 use Rattle.pvvdigits.specs.Answers.{Taken}
 use Rattle.pins.specs.Answers.{pinOf}
-use Rattle.blocks.specs.Answers.{digitsOf}
+use Rattle.answers.specs.Answers.{digitsOf}
 use Rattle.nibbles.proofs.Rows.{row-length, row-below, row-at-lt}
 use Rattle.nibbles.specs.Nibbles.{row}
 use Rattle.pvvdigits.proofs.scan.Statement.{statement}

@@ -10,7 +10,7 @@ use lib.ListN.{take}
 use borrow.Author.Needs.{needs}
 use Rattle.pvvdigits.proofs.Laws.{found-one, found-none, taken-kept, taken-full, taken-one}
 use Rattle.pins.specs.Answers.{pinOf}
-use Rattle.blocks.specs.Answers.{digitsOf}
+use Rattle.answers.specs.Answers.{digitsOf}
 use Rattle.nibbles.proofs.Runs.{inside, under, over}
 use Rattle.pvvdigits.proofs.step.Statement.{statement}
 use Rattle.pvvdigits.proofs.step.Tie as tie

@@ -5,8 +5,9 @@ use mathlib.Core.List.{List}
 use mathlib.Core.Path.{ap, ap₂, sym, _∙_}
 use borrow.Author.Needs.{needs}
 use Rattle.pairs.specs.Answers.{refusalIn}
-use Rattle.blocks.proofs.Laws.{read-pinned, proper, block-held, written-row, row-sixteen, field-row-sixteen}
-use Rattle.blocks.specs.Answers.{digitsOf}
+use Rattle.answers.proofs.Laws.{block-held, row-sixteen, field-row-sixteen}
+use Rattle.blocks.proofs.Laws.{read-pinned, proper, written-row}
+use Rattle.answers.specs.Answers.{digitsOf}
 use Rattle.blocks.specs.Blocks.{readRow, writeRow}
 use Rattle.pins.proofs.Laws.{field-row, reading-got, reading-bad, pin-row}
 use Rattle.pins.specs.declared.Row.the-variants.{Held, Refused}

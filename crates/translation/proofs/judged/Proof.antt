@@ -9,7 +9,7 @@ use Rattle.pairs.proofs.Laws.{pair-back}
 use Rattle.pairs.specs.Answers.{pairIn}
 use Rattle.pairs.specs.Pairs.{pairOf}
 use Rattle.translation.specs.Translation.{carriedBlock, translateBlock}
-use Rattle.blocks.specs.Answers.{blockOf}
+use Rattle.answers.specs.Answers.{blockOf}
 use Rattle.pins.proofs.Laws.{sized-held, sized-not, account-held, account-not, account-under, account-row, block-row}
 use Rattle.pins.specs.Answers.{rowOf}
 use Rattle.pins.specs.Pins.{accountField, sized}

@@ -1,14 +1,10 @@
 -- `translation::translate` meets its contract.
 -- Assumes nothing.
-use mathlib.Core.Path.{ap, sym, _∙_, subst}
 use lib.ListN.{length}
 use borrow.Author.Needs.{needs}
 use Rattle.translation.proofs.Laws.{call-translated}
 use Rattle.translation.specs.Translation.{translateBlock}
-use Rattle.blocks.proofs.Laws.{Blocky, answered, roomy}
-use Rattle.blocks.specs.Answers.{Roomy, bytesOf}
-use Rattle.pins.specs.declared.Row.{Row}
-use Rattle.numbers.proofs.Laws.{does-as}
+use Rattle.answers.proofs.Laws.{Blocky, answer-room, answer-says}
 use Rattle.nibbles.proofs.Bytes.{bytes-below}
 use Rattle.translation.proofs.translate.Statement.{statement}
 use Rattle.translation.proofs.translate.Tie as tie
@@ -23,7 +19,7 @@ answer-requires c κs =
     let o = translateBlock ((a .settings) .restricted) (a .from) (a .to) (a .block .now) (a .account .now) (a .fill .now) room in
     let blocky : Blocky o room = call-translated ((a .settings) .restricted) (a .from) (a .to) (a .block .now) (a .account .now) (a .fill .now) room
     (bytes-below (a .block .now) (c .before .before .before .before .before .shared-slice-known .given)) (bytes-below (a .fill .now) (c .before .before .before .shared-slice-known3 .given)) in
-    subst (λ (j : Row). Roomy j room) (sym (c .before .judged .ensures)) (roomy o room blocky)
+    answer-room o room blocky _ (c .before .judged .ensures)
 
 same-length : tie.Need-same-length
 same-length c = search needs
@@ -35,7 +31,7 @@ returns c =
     let o = translateBlock ((a .settings) .restricted) (a .from) (a .to) (a .block .now) (a .account .now) (a .fill .now) room in
     let blocky : Blocky o room = call-translated ((a .settings) .restricted) (a .from) (a .to) (a .block .now) (a .account .now) (a .fill .now) room
     (bytes-below (a .block .now) (c .before .before .before .before .before .before .before .before .shared-slice-known .given)) (bytes-below (a .fill .now) (c .before .before .before .before .before .before .shared-slice-known3 .given)) in
-    does-as _ o (ap bytesOf (c .before .before .before .before .judged .ensures) ∙ answered o room blocky) (c .before .before .answer .ensures)
+    answer-says o room blocky _ (c .before .before .before .before .judged .ensures) (c .before .before .answer .ensures)
 
 pub translate-spec : {M : Type 1} → statement M
 translate-spec = tie.close (tie.spec judged-requires answer-requires same-length returns)

@@ -5,8 +5,8 @@ use lib.ListN.{length}
 use borrow.Author.Needs.{needs}
 use Rattle.validation.proofs.Laws.{call-block}
 use Rattle.validation.specs.Validation.{validationBlock}
-use Rattle.blocks.proofs.Laws.{answered, roomy}
-use Rattle.blocks.specs.Answers.{Roomy, bytesOf}
+use Rattle.answers.proofs.Laws.{answered, roomy}
+use Rattle.answers.specs.Answers.{Roomy, bytesOf}
 use Rattle.pins.specs.declared.Row.{Row}
 use Rattle.numbers.proofs.Laws.{does-as}
 use Rattle.validation.proofs.validation_block.Statement.{statement}

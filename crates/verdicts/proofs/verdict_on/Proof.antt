@@ -5,7 +5,7 @@ use borrow.Author.Needs.{needs}
 use Rattle.verdicts.proofs.Laws.{verdict-long, verdict-other-length, verdict-other, verdict-same}
 use Rattle.offsets.specs.Answers.{pairIn}
 use Rattle.offsets.specs.Offsets.{offsetFor}
-use Rattle.blocks.specs.Answers.{digitsOf}
+use Rattle.answers.specs.Answers.{digitsOf}
 use Rattle.pins.proofs.Laws.{reading-got, reading-bad}
 use Rattle.pins.specs.declared.Pin.{Pin}
 use Rattle.verdicts.proofs.verdict_on.Statement.{statement}

@@ -1,13 +1,15 @@
--- `blocks::judged_writing` meets its contract.
+-- `blockcalls::judged_writing` meets its contract.
 -- Assumes nothing.
 use Prim.Native.Nat.{ℕ}
 use mathlib.Core.List.{List}
 use mathlib.Core.Path.{ap, ap₂, sym, _∙_}
 use borrow.Author.Tests.{le-leb, lt-leb}
 use borrow.Author.Needs.{needs}
-use Rattle.blocks.proofs.Laws.{proper, block-held, written-row, field-sixteen, bytes-sixteen}
-use Rattle.blocks.specs.Answers.{digitsOf}
-use Rattle.blocks.specs.Blocks.{writeRow, writeBlock}
+use Rattle.answers.proofs.Laws.{block-held, field-sixteen, bytes-sixteen}
+use Rattle.blocks.proofs.Laws.{proper, written-row}
+use Rattle.answers.specs.Answers.{digitsOf}
+use Rattle.blocks.specs.Blocks.{writeRow}
+use Rattle.blockcalls.specs.BlockCalls.{writeBlock}
 use Rattle.pins.proofs.Laws.{sized-held, sized-not, account-held, account-not, account-under, account-field, block-row, reading-got, reading-bad, handed-done, pin-row}
 use Rattle.pins.specs.declared.Row.the-variants.{Held, Refused}
 use Rattle.pins.specs.Answers as answers
@@ -17,8 +19,8 @@ use Rattle.formats.specs.Answers.{refusalIn}
 use Rattle.formats.specs.Formats.{codeOf, formatOf}
 use Rattle.nibbles.proofs.Bytes.{bytes-below}
 use Rattle.nibbles.specs.Nibbles.{nibs, word}
-use Rattle.blocks.proofs.judged_writing.Statement.{statement}
-use Rattle.blocks.proofs.judged_writing.Tie as tie
+use Rattle.blockcalls.proofs.judged_writing.Statement.{statement}
+use Rattle.blockcalls.proofs.judged_writing.Tie as tie
 
 block-width-requires : tie.Need-block-width-requires
 block-width-requires c κs = search needs

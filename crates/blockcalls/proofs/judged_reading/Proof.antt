@@ -1,4 +1,4 @@
--- `blocks::judged_reading` meets its contract.
+-- `blockcalls::judged_reading` meets its contract.
 -- Assumes nothing.
 use Prim.Native.Nat.{ℕ}
 use native.Mathlib.Omega.{arith}
@@ -6,7 +6,8 @@ use mathlib.Core.List.{List}
 use mathlib.Core.Path.{ap, ap₂, sym, _∙_}
 use borrow.Author.Tests.{le-leb, lt-leb}
 use borrow.Author.Needs.{needs}
-use Rattle.blocks.specs.Blocks.{readRow, readBlock}
+use Rattle.blocks.specs.Blocks.{readRow}
+use Rattle.blockcalls.specs.BlockCalls.{readBlock}
 use Rattle.pins.proofs.Laws.{sized-held, sized-not, account-held, account-not, account-under, account-field, block-row}
 use Rattle.pins.specs.declared.Reading.the-variants.{Bad}
 use Rattle.pins.specs.Answers.{rowOf, readingOf}
@@ -16,8 +17,8 @@ use Rattle.formats.specs.Answers.{refusalIn}
 use Rattle.formats.specs.Formats.{codeOf, formatOf}
 use Rattle.nibbles.proofs.Bytes.{bytes-below}
 use Rattle.nibbles.specs.Nibbles.{nibs}
-use Rattle.blocks.proofs.judged_reading.Statement.{statement}
-use Rattle.blocks.proofs.judged_reading.Tie as tie
+use Rattle.blockcalls.proofs.judged_reading.Statement.{statement}
+use Rattle.blockcalls.proofs.judged_reading.Tie as tie
 
 returns : tie.Need-returns
 unfolding readBlock

@@ -1,4 +1,4 @@
--- `blocks::answer_digits` meets its contract.
+-- `answers::answer_digits` meets its contract.
 -- Assumes nothing.
 use Prim.Native.Nat.{ℕ}
 use native.Mathlib.Omega.{arith}
@@ -6,14 +6,14 @@ use mathlib.Core.List.{_++_}
 use mathlib.Core.Path.{ap, sym, _∙_, subst}
 use lib.ListN.{length, drop}
 use borrow.Author.Needs.{needs}
-use Rattle.blocks.specs.Answers.{digitsIn, digitsOf, RoomyDigits}
+use Rattle.answers.specs.Answers.{digitsIn, digitsOf, RoomyDigits}
 use Rattle.pins.specs.declared.Reading.{Reading}
 use Rattle.pins.specs.Answers.{refusalIn}
 use Rattle.numbers.proofs.Laws.{does-refuse, does-write}
 use Rattle.numbers.specs.Numbers.{numberOf}
 use Rattle.nibbles.proofs.Rows.{row-length}
-use Rattle.blocks.proofs.answer_digits.Statement.{statement}
-use Rattle.blocks.proofs.answer_digits.Tie as tie
+use Rattle.answers.proofs.answer_digits.Statement.{statement}
+use Rattle.answers.proofs.answer_digits.Tie as tie
 
 enum-known-judged : tie.Need-enum-known-judged
 enum-known-judged c = search needs

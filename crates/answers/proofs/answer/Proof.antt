@@ -1,11 +1,11 @@
--- `blocks::answer` meets its contract.
+-- `answers::answer` meets its contract.
 -- Assumes nothing.
 use Prim.Native.Nat.{ℕ}
 use mathlib.Core.List.{_++_}
 use mathlib.Core.Path.{_≡_, ap, sym, _∙_, subst}
 use lib.ListN.{length, drop}
 use borrow.Author.Needs.{needs}
-use Rattle.blocks.specs.Answers.{bytesOf, Roomy}
+use Rattle.answers.specs.Answers.{bytesOf, Roomy}
 use Rattle.pins.specs.declared.Row.{Row}
 use Rattle.pins.specs.Answers.{refusedIn}
 use Rattle.numbers.proofs.Laws.{does-refuse, does-write}
@@ -13,8 +13,8 @@ use Rattle.numbers.specs.Numbers.{numberOf}
 use Rattle.nibbles.proofs.Rows.{row-length}
 use Rattle.nibbles.proofs.Bytes.{packs-length}
 use Rattle.nibbles.specs.Nibbles.{row, packs}
-use Rattle.blocks.proofs.answer.Statement.{statement}
-use Rattle.blocks.proofs.answer.Tie as tie
+use Rattle.answers.proofs.answer.Statement.{statement}
+use Rattle.answers.proofs.answer.Tie as tie
 
 eight : (w : ℕ) → length (packs (row 16 w)) ≡ 8
 eight w = packs-length 8 (row 16 w) (row-length 16 w)

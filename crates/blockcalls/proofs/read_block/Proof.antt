@@ -1,15 +1,12 @@
--- `blocks::read_block` meets its contract.
+-- `blockcalls::read_block` meets its contract.
 -- Assumes nothing.
-use mathlib.Core.Path.{ap, sym, _∙_, subst}
 use lib.ListN.{length}
 use borrow.Author.Needs.{needs}
-use Rattle.blocks.proofs.Laws.{Digital, answered-digits, roomy-digits, read-digital}
-use Rattle.blocks.specs.Answers.{digitsIn, RoomyDigits}
-use Rattle.blocks.specs.Blocks.{readBlock}
-use Rattle.pins.specs.declared.Reading.{Reading}
-use Rattle.numbers.proofs.Laws.{does-as}
-use Rattle.blocks.proofs.read_block.Statement.{statement}
-use Rattle.blocks.proofs.read_block.Tie as tie
+use Rattle.answers.proofs.Laws.{Digital, digits-room, digits-say}
+use Rattle.blockcalls.proofs.Laws.{read-digital}
+use Rattle.blockcalls.specs.BlockCalls.{readBlock}
+use Rattle.blockcalls.proofs.read_block.Statement.{statement}
+use Rattle.blockcalls.proofs.read_block.Tie as tie
 
 judged-reading-requires : tie.Need-judged-reading-requires
 judged-reading-requires c κs = search needs
@@ -20,7 +17,7 @@ answer-digits-requires c κs =
     let room = length (a .out .now) in
     let o = readBlock (a .format) (a .block .now) (a .account .now) room in
     let digital : Digital o room = read-digital (a .format) (a .block .now) (a .account .now) room in
-    subst (λ (j : Reading). RoomyDigits j room) (sym (c .before .judged-reading .ensures)) (roomy-digits o room digital)
+    digits-room o room digital _ (c .before .judged-reading .ensures)
 
 same-length : tie.Need-same-length
 same-length c = search needs
@@ -31,7 +28,7 @@ returns c =
     let room = length (a .out .now) in
     let o = readBlock (a .format) (a .block .now) (a .account .now) room in
     let digital : Digital o room = read-digital (a .format) (a .block .now) (a .account .now) room in
-    does-as _ o (ap digitsIn (c .before .before .before .before .judged-reading .ensures) ∙ answered-digits o room digital) (c .before .before .answer-digits .ensures)
+    digits-say o room digital _ (c .before .before .before .before .judged-reading .ensures) (c .before .before .answer-digits .ensures)
 
 pub read-block-spec : {M : Type 1} → statement M
 read-block-spec =
