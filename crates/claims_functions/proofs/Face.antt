@@ -1,7 +1,13 @@
 -- One answer to every promise of the C face: each call cites the law of its shape.
 -- Assumes nothing.
-use Rattle.claims_functions.specs.Face.{QuillgimletSettled}
+use Rattle.claims_functions.specs.Face.{FaceSettled, QuillgimletSettled}
 use Rattle.claims_functions.proofs.Once.{settled, answered, verdict}
+
+pub face-once : FaceSettled
+face-once = record {
+  inner = λ κs a r r′ ends ends′. settled;
+  flag = λ κs a r r′ ends ends′. settled;
+}
 
 pub quillgimlet-once : QuillgimletSettled
 quillgimlet-once = record {

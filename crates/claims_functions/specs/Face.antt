@@ -1,7 +1,13 @@
--- One answer to every promise of the C face: the fifteen calls that are exported.
+-- One answer to every promise of the C face: its settings, and the fifteen calls that are exported.
 -- Each line is over the contract of the function of its name, as the checker reads it for a caller.
+use Rattle.face.proofs as Settings
 use Rattle.quillgimlet.proofs as Face
 use Rattle.claims_functions.specs.Once.{Settled}
+
+-- every public function of face
+pub record FaceSettled : Type 0 where
+  pub inner : Settled Settings.inner.ended Settings.inner.Reads.Learnt
+  pub flag : Settled Settings.flag.ended Settings.flag.Reads.Learnt
 
 -- every call of quillgimlet
 pub record QuillgimletSettled : Type 0 where

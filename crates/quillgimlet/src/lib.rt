@@ -12,33 +12,10 @@ ghost use Rattle.verdicts.specs.Verdicts.{offsetVerdict};
 ghost use Rattle.pvv.specs.Pvv.{pvvInput, pvvMade, pvvVerdict};
 ghost use Rattle.settings.specs.Settings.{usually};
 ghost use Rattle.commands.specs.Commands.{asked, answered};
-ghost use Rattle.quillgimlet.specs.Face.{yes?, settingsOf, flagOf, faceOf};
+ghost use Rattle.face.specs.Face.{yes?, settingsOf, faceOf};
+use face::FaceSettings;
 use numbers::Reply;
 use settings::Settings;
-
-// The settings as they cross the boundary: a foreign bool may hold anything, so a flag is a byte.
-#[repr(C)]
-pub struct FaceSettings {
-    pub header: usize,
-    pub restricted: u8,
-    pub variable: u8,
-}
-
-fn inner(s: FaceSettings) -> Settings
-    ensures { λ r. ⌜ r ≡ settingsOf s ⌝ }
-{
-    Settings {
-        header: s.header,
-        restricted: s.restricted != 0,
-        variable: s.variable != 0,
-    }
-}
-
-fn flag(yes: bool) -> u8
-    ensures { λ r. ⌜ r ≡ flagOf yes ⌝ }
-{
-    if yes { 1 } else { 0 }
-}
 
 #[no_mangle]
 pub extern "C" fn qg_usual() -> FaceSettings
@@ -47,8 +24,8 @@ pub extern "C" fn qg_usual() -> FaceSettings
     let usual = Settings::usual();
     FaceSettings {
         header: usual.header,
-        restricted: flag(usual.restricted),
-        variable: flag(usual.variable),
+        restricted: face::flag(usual.restricted),
+        variable: face::flag(usual.variable),
     }
 }
 
@@ -56,7 +33,7 @@ pub extern "C" fn qg_usual() -> FaceSettings
 pub extern "C" fn qg_ask(settings: FaceSettings, command: &[u8], out: &mut [u8]) -> Reply
     ensures { λ r. ⌜ Does (quietly (asked (settingsOf settings) (now (command .entry)) (length (now (out .entry))))) (now (out .entry)) r (now (out .exit)) ⌝ }
 {
-    commands::ask(inner(settings), command, out)
+    commands::ask(face::inner(settings), command, out)
 }
 
 #[no_mangle]
@@ -72,7 +49,7 @@ pub extern "C" fn qg_answer(
     ensures { λ r. ⌜ Does (answered (settingsOf settings) (yes? pinparity) (yes? pvkparity) (now (command .entry)) (now (block .entry)) (now (enciphered .entry)) (length (now (out .entry)))) (now (out .entry)) r (now (out .exit)) ⌝ }
 {
     commands::answer(
-        inner(settings),
+        face::inner(settings),
         pinparity != 0,
         pvkparity != 0,
         command,
@@ -114,7 +91,7 @@ pub extern "C" fn qg_translate(
 ) -> Reply
     ensures { λ r. ⌜ Does (quietly (translateBlock (yes? (settings .restricted)) from to (now (block .entry)) (now (account .entry)) (now (fill .entry)) (length (now (out .entry))))) (now (out .entry)) r (now (out .exit)) ⌝ }
 {
-    translation::translate(inner(settings), from, to, block, account, fill, out)
+    translation::translate(face::inner(settings), from, to, block, account, fill, out)
 }
 
 #[no_mangle]
@@ -150,7 +127,7 @@ pub extern "C" fn qg_offset(
     ensures { λ r. ⌜ Does (quietly (offsetMade (yes? (settings .variable)) format check (now (block .entry)) (now (account .entry)) (now (table .entry)) (now (enciphered .entry)) (lib.ListN.length (now (out .entry))))) (now (out .entry)) r (now (out .exit)) ⌝ }
 {
     offsets::offset(
-        inner(settings),
+        face::inner(settings),
         format,
         check,
         block,
@@ -171,7 +148,7 @@ pub extern "C" fn qg_offset_of_digits(
 ) -> Reply
     ensures { λ r. ⌜ Does (quietly (offsetOfDigits (yes? (settings .variable)) check (now (pin .entry)) (now (natural .entry)) (lib.ListN.length (now (out .entry))))) (now (out .entry)) r (now (out .exit)) ⌝ }
 {
-    offsets::offset_of_digits(inner(settings), check, pin, natural, out)
+    offsets::offset_of_digits(face::inner(settings), check, pin, natural, out)
 }
 
 #[no_mangle]
@@ -184,7 +161,7 @@ pub extern "C" fn qg_differences(
 ) -> Reply
     ensures { λ r. ⌜ Does (quietly (differencesOf (yes? (settings .variable)) check (now (pin .entry)) (now (natural .entry)) (lib.ListN.length (now (out .entry))))) (now (out .entry)) r (now (out .exit)) ⌝ }
 {
-    offsets::differences(inner(settings), check, pin, natural, out)
+    offsets::differences(face::inner(settings), check, pin, natural, out)
 }
 
 #[no_mangle]
@@ -201,7 +178,7 @@ pub extern "C" fn qg_offset_verdict(
     ensures { λ r. ⌜ Does (quietly (offsetVerdict (yes? (settings .variable)) format check (now (block .entry)) (now (account .entry)) (now (table .entry)) (now (enciphered .entry)) (now (offset .entry)))) [] r [] ⌝ }
 {
     verdicts::offset_verdict(
-        inner(settings),
+        face::inner(settings),
         format,
         check,
         block,

@@ -8,7 +8,7 @@ use Rattle.numbers.specs.declared.Reply.{Reply}
 use Rattle.settings.specs.declared.Settings.{Settings}
 use Rattle.numbers.specs.Promise.{Said, Does}
 use Rattle.commands.specs.Commands.{answered}
-use Rattle.quillgimlet.specs.Face.{yes?}
+use Rattle.face.specs.Face.{yes?}
 use borrow.Author.Needs.{needs}
 use Rattle.quillgimlet.proofs.qg_answer.Statement.{statement}
 use Rattle.quillgimlet.proofs.qg_answer.Tie as tie

@@ -3,8 +3,7 @@
 use Prim.Native.Nat.{ℕ}
 use mathlib.Core.Path.{ap, _∙_}
 use Rattle.settings.specs.declared.Settings.{Settings}
-use Rattle.quillgimlet.specs.Face.{flagOf}
-use Rattle.quillgimlet.specs.declared.FaceSettings.{FaceSettings}
+use Rattle.face.specs.Face.{flagOf}
 use borrow.Author.Needs.{needs}
 use Rattle.quillgimlet.proofs.qg_usual.Statement.{statement}
 use Rattle.quillgimlet.proofs.qg_usual.Tie as tie

@@ -3,7 +3,7 @@ use Prim.Native.Nat.{ℕ}
 use mathlib.Core.Bool.{Bool, true, false, not}
 use lib.Dec.{eqb}
 use Rattle.settings.specs.declared.Settings.{Settings}
-use Rattle.quillgimlet.specs.declared.FaceSettings.{FaceSettings}
+use Rattle.face.specs.declared.FaceSettings.{FaceSettings}
 
 -- 0 is No, anything else Yes
 abbrev pub yes? : ℕ → Bool
