@@ -1,0 +1,58 @@
+-- The contract says of a return what the law over the definitions asks of it.
+-- Assumes nothing.
+use Prim.Native.Nat.{ℕ}
+use mathlib.Core.Path.{_≡_, refl, sym, _∙_, subst}
+use mathlib.Core.List.{List}
+use mathlib.Core.Bool.{Bool, true, false}
+use lib.ListN.{length, take}
+use Rattle.numbers.specs.Numbers.{done, refused, andThen}
+use Rattle.numbers.specs.Promise.{Does}
+use Rattle.numbers.specs.declared.Reply.{Reply}
+use Rattle.settings.specs.declared.Settings.{Settings}
+use Rattle.fields.specs.Fields.{Ruling, pointing, unpointed}
+use Rattle.keybox.specs.KeyBox.{slices, parities, boxed}
+use Rattle.commands.specs.Commands.{answered}
+use Rattle.claims_blocks.specs.Promises.{listed}
+use Rattle.claims_commands.specs.Runs.{Reads}
+use Rattle.claims_commands.specs.Claims.{Tells, readNumbers}
+use Rattle.claims_commands.proofs.PinsRead.{reads-exactly, returns-tell-differences}
+use Rattle.claims_returns.specs.Returns.{Return, Answers, AllowedReturnsTellDifferences, settings, pinKeyGood, pvkGood, command, block, enciphered, before, after}
+
+-- two returns, each under settings and parities of its own
+abbrev Told : Settings → Bool → Bool → Settings → Bool → Bool → Type 0
+Told x g h x′ g′ h′ = (s t block block′ enciphered enciphered′ before before′ after after′ : List ℕ) (reply reply′ : Reply)
+    → Does (answered x g h s block enciphered (length before)) before reply after
+    → Does (answered x′ g′ h′ t block′ enciphered′ (length before′)) before′ reply′ after′
+    → listed (reply .number) readNumbers ≡ true → listed (reply′ .number) readNumbers ≡ true
+    → (r : Reads x g h (length before) s block enciphered) × (r′ : Reads x′ g′ h′ (length before′) t block′ enciphered′)
+    × Tells (x .variable) s t (r .reaches .fields) (r′ .reaches .fields) (r .found) (r′ .found)
+    ((reply .number ≡ reply′ .number) × (take (reply .written) after ≡ take (reply′ .written) after′))
+
+told : (x x′ : Settings) (g g′ h h′ : Bool) → x ≡ x′ → g ≡ g′ → h ≡ h′ → Told x g h x′ g′ h′
+told x x′ g g′ h h′ p q k =
+    subst (λ (y : Settings). Told x g h y g′ h′) p
+    (subst (λ (c : Bool). Told x g h x c h′) q
+    (subst (λ (c : Bool). Told x g h x g c) k (returns-tell-differences x g h)))
+
+-- what is taken of the key box has good parities
+judged-good : {A : Type 0} (o : Ruling A) (g h : Bool) (rows : A) → andThen o (λ x. andThen (unpointed (parities g h)) (λ _. done x)) ≡ done rows → (g ≡ true) × (h ≡ true)
+unfolding parities
+judged-good (done x) true true rows e = (refl, refl)
+judged-good (done x) true false rows e = (cc, cc)
+judged-good (done x) false h rows e = (cc, cc)
+judged-good (refused q) g h rows e = (cc, cc)
+
+boxed-good : (end : ℕ) (g h : Bool) (block enciphered : List ℕ) (rows : List ℕ × List ℕ) → boxed end g h block enciphered ≡ done rows → (g ≡ true) × (h ≡ true)
+unfolding boxed
+boxed-good end g h block enciphered rows e = judged-good (pointing 0 end (slices block enciphered)) g h rows e
+
+good : (a : Return) → Answers a → (pinKeyGood a ≡ true) × (pvkGood a ≡ true)
+good a e =
+    let r = reads-exactly (settings a) (pinKeyGood a) (pvkGood a) (length (before a)) (command a) (block a) (enciphered a) .0
+    (subst (λ (n : ℕ). listed n readNumbers ≡ true) (a .allowed .number) e) in
+    boxed-good (length (command a)) (pinKeyGood a) (pvkGood a) (block a) (enciphered a) (r .reaches .rows) (r .reaches .boxed)
+
+pub allowed-returns-tell-differences : AllowedReturnsTellDifferences
+allowed-returns-tell-differences a b p e e′ =
+    told (settings a) (settings b) (pinKeyGood a) (pinKeyGood b) (pvkGood a) (pvkGood b) p (good a e .0 ∙ sym (good b e′ .0)) (good a e .1 ∙ sym (good b e′ .1))
+    (command a) (command b) (block a) (block b) (enciphered a) (enciphered b) (before a) (before b) (after a) (after b) (a .reply) (b .reply) (a .allowed) (b .allowed) e e′

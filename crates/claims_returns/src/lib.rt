@@ -1,0 +1,1 @@
+// Demand 3, of the returns of the exported answering call, as its contract allows them.
