@@ -25,16 +25,13 @@ use Rattle.responses.specs.declared.Payload.the-variants.{Offset}
 use Rattle.responses.specs.declared.Answered.the-variants as answered
 use Rattle.pairing.specs.Pairing.{askedAt}
 use Rattle.pairing.specs.Answers.{boxRows}
-use Rattle.bk.proofs.Places.{placed}
-use Rattle.bk.proofs.Reading.{fields-found, fields-bad}
-use Rattle.bk.specs.Bk.{bkFields, bkAsk, bkFinish, bkAnswer}
-use Rattle.bk.specs.Answers.{Placed, bkRead}
-use Rattle.bk.specs.declared.Bk.{Bk}
-use Rattle.bk.specs.declared.BkRead.the-variants as fields
-
--- the fields that the code found have their places in the command
-pub found-placed : (restricted : Bool) (s : List ℕ) (at : ℕ) (p : Bk) → fields.Got p ≡ bkRead (bkFields restricted s at) → Placed s p
-found-placed restricted s at p e = let f = fields-found (bkFields restricted s at) p e in placed restricted s at p (f .0) (f .1)
+use Rattle.bkfields.proofs.Reading.{fields-found, fields-bad}
+use Rattle.bkfields.specs.BkFields.{bkFields}
+use Rattle.bk.specs.Bk.{bkAsk, bkAnswer}
+use Rattle.bkfinish.specs.BkFinish.{bkFinish}
+use Rattle.bkfields.specs.Answers.{bkRead}
+use Rattle.bkfields.specs.declared.Bk.{Bk}
+use Rattle.bkfields.specs.declared.BkRead.the-variants as fields
 
 -- ---- the asking call
 

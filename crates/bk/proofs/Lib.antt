@@ -1,4 +1,2 @@
-pub mod Laws
 pub mod Places
-pub mod Reading
 pub mod Calls

@@ -9,8 +9,8 @@ use lib.Seq.{take-take, getD-take}
 use Rattle.frame.specs.Frame.{opening}
 use Rattle.keyfields.specs.declared.Keys.{Keys}
 use Rattle.sealed.specs.declared.Sealed.{Sealed}
-use Rattle.bk.specs.Bk.{bkFields}
-use Rattle.bk.specs.declared.Bk.{Bk}
+use Rattle.bkfields.specs.BkFields.{bkFields}
+use Rattle.bkfields.specs.declared.Bk.{Bk}
 use Rattle.claims_alike.proofs.Alike as any
 use Rattle.claims_commands.specs.Claims.{ReadAlike}
 use Rattle.claims_commands.proofs.Listing.{bkLayout}

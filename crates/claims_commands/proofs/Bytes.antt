@@ -16,8 +16,8 @@ use Rattle.settings.specs.declared.Settings.{Settings}
 use Rattle.frame.specs.Frame.{raised, inTwoDigits, opening}
 use Rattle.keyfields.specs.declared.Keys.{Keys}
 use Rattle.sealed.specs.declared.Sealed.{Sealed}
-use Rattle.bk.specs.Bk.{bkFields}
-use Rattle.bk.specs.declared.Bk.{Bk}
+use Rattle.bkfields.specs.BkFields.{bkFields}
+use Rattle.bkfields.specs.declared.Bk.{Bk}
 use Rattle.fields.specs.Fields.{heard}
 use Rattle.responses.specs.Responses.{responding}
 use Rattle.commands.specs.Commands.{answered, commanded}

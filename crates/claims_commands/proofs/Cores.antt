@@ -43,8 +43,10 @@ use Rattle.offsetting.specs.Offsetting.{offsetting, accountIn, validationIn}
 use Rattle.weaklist.specs.WeakList.{weak}
 use Rattle.endings.specs.Endings.{end}
 use Rattle.pairing.specs.Pairing.{askedAt}
-use Rattle.bk.specs.Bk.{bkFields, bkAsk, bkFinish, bkAnswer}
-use Rattle.bk.specs.declared.Bk as bk
+use Rattle.bkfields.specs.BkFields.{bkFields}
+use Rattle.bk.specs.Bk.{bkAsk, bkAnswer}
+use Rattle.bkfinish.specs.BkFinish.{bkFinish}
+use Rattle.bkfields.specs.declared.Bk as bk
 use Rattle.commands.specs.Commands.{askBy, answerBy, commanded, silently, asking, asked, answered}
 use Rattle.claims_blocks.specs.Figures.{usualAccount}
 use Rattle.claims_blocks.specs.Promises.{Only00, Apart}

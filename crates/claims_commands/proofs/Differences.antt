@@ -14,8 +14,8 @@ use Rattle.numbers.proofs.Laws.{value-of}
 use Rattle.settings.specs.declared.Settings.{Settings}
 use Rattle.ibm3624.specs.Ibm3624.{covers, offsetOf}
 use Rattle.weak.specs.Weak.{isOn, weakPins}
-use Rattle.bk.specs.Bk.{bkFinish}
-use Rattle.bk.specs.declared.Bk.{Bk}
+use Rattle.bkfinish.specs.BkFinish.{bkFinish}
+use Rattle.bkfields.specs.declared.Bk.{Bk}
 use Rattle.claims_commands.specs.Runs.{Reads}
 use Rattle.claims_commands.specs.Claims.{OffsetsTellDifferences}
 use Rattle.claims_commands.proofs.Alike.{read-alike}

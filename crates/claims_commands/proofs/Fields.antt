@@ -38,7 +38,7 @@ use Rattle.offsetting.specs.Offsetting.{offsetting}
 use Rattle.weaklist.specs.WeakList.{weak}
 use Rattle.endings.specs.Endings.{allAgree, lastId, closed, end}
 use Rattle.keyfields.specs.declared.Keys.{Keys}
-use Rattle.bk.specs.Bk.{weakMark, bkFields}
+use Rattle.bkfields.specs.BkFields.{weakMark, bkFields}
 use Rattle.claims_blocks.specs.Promises.{listed}
 use Rattle.claims_blocks.proofs.Judged.{Only, done-only, refused-only, test-only, then-only}
 

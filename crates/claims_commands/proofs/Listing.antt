@@ -10,8 +10,8 @@ use lib.ListN.{drop}
 use Rattle.uses.specs.Uses.{pinKey, pvk}
 use Rattle.keyfields.specs.declared.Keys.{Keys}
 use Rattle.sealed.specs.declared.Sealed.{Sealed}
-use Rattle.bk.specs.Bk.{weakMark, bkFields}
-use Rattle.bk.specs.declared.Bk.{Bk}
+use Rattle.bkfields.specs.BkFields.{weakMark, bkFields}
+use Rattle.bkfields.specs.declared.Bk.{Bk}
 use Rattle.texts.specs.Exact.{ExactAt}
 use Rattle.claims_alike.specs.Alike.{Piece, Layout}
 use Rattle.claims_alike.proofs.Pieces.{next, last, keysPiece, sealedPiece, inputsPiece, weakPiece, endPiece, whole}

@@ -38,8 +38,10 @@ use Rattle.keybox.specs.KeyBox.{slices, parities, boxed}
 use Rattle.responses.specs.Responses.{Payload, offset, payloadText, answerText, responding}
 use Rattle.responses.proofs.Laws.{Fine}
 use Rattle.offsetting.specs.Offsetting.{accountIn, tableIn, validationIn}
-use Rattle.bk.specs.Bk.{bkFields, bkAsk, bkFinish, bkAnswer}
-use Rattle.bk.specs.declared.Bk as fields
+use Rattle.bkfields.specs.BkFields.{bkFields}
+use Rattle.bk.specs.Bk.{bkAsk, bkAnswer}
+use Rattle.bkfinish.specs.BkFinish.{bkFinish}
+use Rattle.bkfields.specs.declared.Bk as fields
 use Rattle.commands.specs.Commands.{askBy, answerBy, opened, asking, asked, answered, commanded, silently}
 use Rattle.commands.proofs.Laws.{asked-block, answer-by-sound}
 use Rattle.claims_blocks.specs.Promises.{listed}

@@ -30,8 +30,10 @@ use Rattle.frame.specs.declared.Code.the-variants as code
 use Rattle.fields.specs.Fields.{Ruling, ruled, pointing, unpointed, heard, outcome}
 use Rattle.fields.proofs.Rulings.{heard-then, heard-pointing}
 use Rattle.weak.specs.Weak.{isOn, weakPins}
-use Rattle.bk.specs.Bk.{bkFields, bkFinish, bkAnswer}
-use Rattle.bk.proofs.Places.{ruled-read}
+use Rattle.bkfields.specs.BkFields.{bkFields}
+use Rattle.bkfinish.specs.BkFinish.{bkFinish}
+use Rattle.bk.specs.Bk.{bkAnswer}
+use Rattle.bkfields.proofs.Places.{ruled-read}
 use Rattle.commands.specs.Commands.{answerBy, answered}
 use Rattle.commands.proofs.Laws.{answered-901, answered-902, answered-framed}
 use Rattle.claims_blocks.specs.Promises.{listed}

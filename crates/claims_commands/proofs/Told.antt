@@ -20,8 +20,10 @@ use Rattle.keyfields.specs.declared.Keys.{Keys}
 use Rattle.sealed.specs.declared.Sealed.{Sealed}
 use Rattle.fields.specs.Fields.{unpointed, heard}
 use Rattle.responses.specs.Responses.{offset, answerText, responding}
-use Rattle.bk.specs.Bk.{bkFields, bkFinish, bkAnswer}
-use Rattle.bk.specs.declared.Bk.{Bk}
+use Rattle.bkfields.specs.BkFields.{bkFields}
+use Rattle.bkfinish.specs.BkFinish.{bkFinish}
+use Rattle.bk.specs.Bk.{bkAnswer}
+use Rattle.bkfields.specs.declared.Bk.{Bk}
 use Rattle.bk.proofs.Places.{answer-sound}
 use Rattle.commands.specs.Commands.{answerBy, answered}
 use Rattle.commands.proofs.Laws.{answered-framed}

@@ -36,8 +36,10 @@ use Rattle.sealed.specs.Sealed.{sealed}
 use Rattle.offsetting.specs.Offsetting.{offsetting, accountIn, tableIn}
 use Rattle.weaklist.specs.WeakList.{weak}
 use Rattle.endings.specs.Endings.{end}
-use Rattle.bk.specs.Bk.{bkFields, bkFinish, bkAnswer}
-use Rattle.bk.specs.declared.Bk.{Bk}
+use Rattle.bkfields.specs.BkFields.{bkFields}
+use Rattle.bkfinish.specs.BkFinish.{bkFinish}
+use Rattle.bk.specs.Bk.{bkAnswer}
+use Rattle.bkfields.specs.declared.Bk.{Bk}
 use Rattle.commands.specs.Commands.{answerBy, answered}
 use Rattle.claims_commands.specs.Runs.{Reads}
 use Rattle.claims_commands.specs.Witnesses.{command, Run, runP9, runP10, runOther, runLastFour, bothListed, oneListed, variable, Meets, AssumptionsMet}

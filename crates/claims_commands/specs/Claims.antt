@@ -15,8 +15,9 @@ use Rattle.frame.specs.Frame.{opening}
 use Rattle.frame.specs.declared.Code.{Code}
 use Rattle.fields.specs.Fields.{read, Ruling}
 use Rattle.weak.specs.Weak.{isOn, weakPins}
-use Rattle.bk.specs.Bk.{bkFields, bkFinish}
-use Rattle.bk.specs.declared.Bk.{Bk}
+use Rattle.bkfields.specs.BkFields.{bkFields}
+use Rattle.bkfinish.specs.BkFinish.{bkFinish}
+use Rattle.bkfields.specs.declared.Bk.{Bk}
 use Rattle.responses.specs.Responses.{responding}
 use Rattle.commands.specs.Commands.{answered}
 use Rattle.claims_blocks.specs.Promises.{listed}

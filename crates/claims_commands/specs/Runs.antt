@@ -12,8 +12,8 @@ use Rattle.frame.specs.declared.Code.the-variants as code
 use Rattle.fields.specs.Fields as field
 use Rattle.keybox.specs.KeyBox as keybox
 use Rattle.pairing.specs.Pairing.{pairAt}
-use Rattle.bk.specs.Bk.{bkFields}
-use Rattle.bk.specs.declared.Bk.{Bk}
+use Rattle.bkfields.specs.BkFields.{bkFields}
+use Rattle.bkfields.specs.declared.Bk.{Bk}
 use Rattle.responses.specs.Responses.{roomToAnswer}
 use Rattle.claims_alike.specs.Alike.{Outside}
 

@@ -5,8 +5,8 @@ use mathlib.Core.Path.{_≡_, refl, sym, subst}
 use mathlib.Core.List.{List, [], _++_}
 use mathlib.Core.Bool.{Bool}
 use Rattle.alphabet.specs.Alphabet.{begins}
-use Rattle.bk.specs.Bk.{bkFields}
-use Rattle.bk.specs.declared.Bk.{Bk}
+use Rattle.bkfields.specs.BkFields.{bkFields}
+use Rattle.bkfields.specs.declared.Bk.{Bk}
 use Rattle.texts.specs.Texts.{Optional, absent, present, WherePresent}
 use Rattle.texts.specs.Exact.{Writing, ExactAt}
 use Rattle.texts.specs.Joining.{Same}

@@ -7,7 +7,7 @@ use lib.ListN.{length, drop}
 use lib.Seq.{take-at, drop-at, drop-drop}
 use Rattle.alphabet.specs.Alphabet.{valueOf}
 use Rattle.weak.specs.Weak.{entries, weakPins}
-use Rattle.bk.specs.Bk.{bkFields}
+use Rattle.bkfields.specs.BkFields.{bkFields}
 use Rattle.texts.specs.Texts.{together, Optional, absent, present, WherePresent, optionalText}
 use Rattle.texts.proofs.Closing.{past-text, stands-at}
 use Rattle.texts.proofs.Whole.{exactly}

@@ -25,8 +25,9 @@ use Rattle.responses.specs.Responses.{Payload, offset, answerText, responding}
 use Rattle.frame.specs.Frame.{opening, inTwoDigits}
 use Rattle.fields.specs.declared.Fault.{Fault}
 use Rattle.weak.specs.Weak.{isOn}
-use Rattle.bk.specs.Bk.{bkFinish, bkAnswer}
-use Rattle.bk.specs.declared.Bk as fields
+use Rattle.bkfinish.specs.BkFinish.{bkFinish}
+use Rattle.bk.specs.Bk.{bkAnswer}
+use Rattle.bkfields.specs.declared.Bk as fields
 use Rattle.commands.specs.Commands.{answerBy}
 use Rattle.commands.proofs.Laws.{answered-framed}
 use Rattle.texts.specs.Texts.{trailerText}

@@ -16,7 +16,7 @@ use Rattle.formats.specs.declared.Format.the-variants.{F01, F03, F05, F34, F35,
 use Rattle.pins.specs.Pins.{accountField}
 use Rattle.blocks.specs.Blocks.{veil, readRow}
 use Rattle.formats.specs.Formats.{veiled}
-use Rattle.bk.specs.declared.Bk as fields
+use Rattle.bkfields.specs.declared.Bk as fields
 use Rattle.claims_blocks.specs.Claims.{IsRow, Carries}
 use Rattle.claims_blocks.proofs.Bytes.{is-row}
 use Rattle.claims_blocks.proofs.Judged as judged

@@ -30,8 +30,9 @@ use Rattle.fields.specs.Fields.{faulty, unpointed, heard, outcome}
 use Rattle.responses.specs.Responses.{responding}
 use Rattle.fields.specs.declared.Fault.{Fault}
 use Rattle.weak.specs.Weak.{isOn}
-use Rattle.bk.specs.Bk.{bkFields, bkAsk, bkAnswer}
-use Rattle.bk.specs.declared.Bk as fields
+use Rattle.bkfields.specs.BkFields.{bkFields}
+use Rattle.bk.specs.Bk.{bkAsk, bkAnswer}
+use Rattle.bkfields.specs.declared.Bk as fields
 use Rattle.commands.specs.Commands.{askBy, answerBy, asking, asked, answered, commanded}
 use Rattle.commands.proofs.Laws.{answered-902, answered-framed}
 use Rattle.texts_data.specs.DataTexts.{weakPinsOf}

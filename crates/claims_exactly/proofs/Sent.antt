@@ -17,8 +17,8 @@ use Rattle.frame.specs.declared.Code.the-variants.{Bk, Other}
 use Rattle.frame.proofs.Laws.{framed-bounds, bk-answers-bl}
 use Rattle.fields.specs.Fields.{Stage, read, faulty}
 use Rattle.fields.specs.declared.Fault.{Fault}
-use Rattle.bk.specs.Bk.{bkFields}
-use Rattle.bk.specs.declared.Bk as fields
+use Rattle.bkfields.specs.BkFields.{bkFields}
+use Rattle.bkfields.specs.declared.Bk as fields
 use Rattle.texts.proofs.Runs.{begins-split}
 use Rattle.claims_blocks.proofs.Judged as judged
 use Rattle.claims_exactly.specs.BkText.{BkParts, bkText, IsBk, IsHeader, sent}

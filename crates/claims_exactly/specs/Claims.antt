@@ -6,8 +6,8 @@ use mathlib.Core.Bool.{Bool}
 use lib.ListN.{length, drop}
 use Rattle.weak.specs.Weak.{weakPins}
 use Rattle.offsetting.specs.Offsetting.{part}
-use Rattle.bk.specs.Bk.{bkFields}
-use Rattle.bk.specs.declared.Bk.{Bk}
+use Rattle.bkfields.specs.BkFields.{bkFields}
+use Rattle.bkfields.specs.declared.Bk.{Bk}
 use Rattle.texts.specs.Texts.{optionalText, trailerText}
 use Rattle.texts.specs.Whole.{Command, Exactly}
 use Rattle.texts_keys.specs.KeyTexts.{idText}

@@ -1,6 +1,6 @@
 -- One answer to every promise of the crates of commands: each function cites the law of its shape.
 -- Assumes nothing.
-use Rattle.claims_functions.specs.Commands.{KeyBoxSettled, ResponsesSettled, FrameSettled, FieldsSettled, LmkSettled, UsesSettled, KeyLengthsSettled, KeyBlocksSettled, KeysSettled, WeakSettled, FormatFieldSettled, ValidationFieldSettled, KeyFieldsSettled, SealedSettled, OffsettingSettled, WeakListSettled, EndingsSettled, PairingSettled, BkSettled, CommandsSettled}
+use Rattle.claims_functions.specs.Commands.{KeyBoxSettled, ResponsesSettled, FrameSettled, FieldsSettled, LmkSettled, UsesSettled, KeyLengthsSettled, KeyBlocksSettled, KeysSettled, WeakSettled, FormatFieldSettled, ValidationFieldSettled, KeyFieldsSettled, SealedSettled, OffsettingSettled, WeakListSettled, EndingsSettled, PairingSettled, BkFieldsSettled, BkFinishSettled, BkSettled, CommandsSettled}
 use Rattle.claims_functions.proofs.Once.{settled, left, answered}
 
 pub key-box-once : KeyBoxSettled
@@ -112,10 +112,17 @@ pairing-once = record {
   pair = λ κs a r r′ ends ends′. settled;
 }
 
-pub bk-once : BkSettled
-bk-once = record {
+pub bk-fields-once : BkFieldsSettled
+bk-fields-once = record {
   BkRead·fault = λ κs a r r′ ends ends′. settled;
   read = λ κs a r r′ ends ends′. settled;
+}
+
+pub bk-finish-once : BkFinishSettled
+bk-finish-once = record { finish = λ κs a r r′ ends ends′. settled }
+
+pub bk-once : BkSettled
+bk-once = record {
   ask = λ κs a r r′ ends ends′. settled;
   answer = λ κs a r r′ ends ends′. settled;
 }

@@ -20,6 +20,8 @@ use Rattle.offsetting.proofs as Offsetting
 use Rattle.weaklist.proofs as WeakList
 use Rattle.endings.proofs as Endings
 use Rattle.pairing.proofs as Pairing
+use Rattle.bkfields.proofs as BkFields
+use Rattle.bkfinish.proofs as BkFinish
 use Rattle.bk.proofs as Bk
 use Rattle.commands.proofs as Commands
 use Rattle.claims_functions.specs.Once.{Settled}
@@ -123,10 +125,17 @@ pub record PairingSettled : Type 0 where
   pub asked : Settled Pairing.asked.ended Pairing.asked.Reads.Learnt
   pub pair : Settled Pairing.pair.ended Pairing.pair.Reads.Learnt
 
+-- every public function of bkfields
+pub record BkFieldsSettled : Type 0 where
+  pub BkRead·fault : Settled BkFields.BkRead.fault.ended BkFields.BkRead.fault.Reads.Learnt
+  pub read : Settled BkFields.read.ended BkFields.read.Reads.Learnt
+
+-- every public function of bkfinish
+pub record BkFinishSettled : Type 0 where
+  pub finish : Settled BkFinish.finish.ended BkFinish.finish.Reads.Learnt
+
 -- every public function of bk
 pub record BkSettled : Type 0 where
-  pub BkRead·fault : Settled Bk.BkRead.fault.ended Bk.BkRead.fault.Reads.Learnt
-  pub read : Settled Bk.read.ended Bk.read.Reads.Learnt
   pub ask : Settled Bk.ask.ended Bk.ask.Reads.Learnt
   pub answer : Settled Bk.answer.ended Bk.answer.Reads.Learnt
 

@@ -8,8 +8,9 @@ use Rattle.numbers.specs.declared.Refusal.{Refusal}
 use Rattle.keybox.specs.Answers.{boxFault}
 use Rattle.responses.specs.Answers.{answeredOf}
 use Rattle.responses.specs.declared.Answered.the-variants.{Bad}
-use Rattle.bk.specs.Answers.{fieldsFault}
-use Rattle.bk.proofs.Calls.{found-placed, answer-faulty, answer-unboxed, answer-unfinished, answer-made}
+use Rattle.bkfields.specs.Answers.{fieldsFault}
+use Rattle.bkfields.proofs.Found.{found-placed}
+use Rattle.bk.proofs.Calls.{answer-faulty, answer-unboxed, answer-unfinished, answer-made}
 use Rattle.bk.proofs.answer.Statement.{statement}
 use Rattle.bk.proofs.answer.Tie as tie
 

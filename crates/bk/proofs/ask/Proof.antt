@@ -6,8 +6,9 @@ use Rattle.pairing.specs.Pairing.{askedAt}
 use Rattle.responses.specs.Answers.{askedRow, askedOf}
 use Rattle.responses.specs.declared.Asked.the-variants.{Bad}
 use Rattle.responses.proofs.Laws.{block-asked}
-use Rattle.bk.specs.Answers.{fieldsFault}
-use Rattle.bk.proofs.Calls.{found-placed, ask-faulty, ask-read}
+use Rattle.bkfields.specs.Answers.{fieldsFault}
+use Rattle.bkfields.proofs.Found.{found-placed}
+use Rattle.bk.proofs.Calls.{ask-faulty, ask-read}
 use Rattle.bk.proofs.ask.Statement.{statement}
 use Rattle.bk.proofs.ask.Tie as tie
 

@@ -33,10 +33,10 @@ use Rattle.endings.specs.Endings.{end}
 use Rattle.endings.specs.Answers.{endOf}
 use Rattle.endings.specs.declared.End.the-variants as ended
 use Rattle.endings.proofs.Laws.{end-found, end-bad}
-use Rattle.bk.specs.Bk.{weakMark, bkFields}
-use Rattle.bk.specs.Answers.{bkRead}
-use Rattle.bk.specs.declared.Bk.{Bk}
-use Rattle.bk.specs.declared.BkRead.the-variants as fields
+use Rattle.bkfields.specs.BkFields.{weakMark, bkFields}
+use Rattle.bkfields.specs.Answers.{bkRead}
+use Rattle.bkfields.specs.declared.Bk.{Bk}
+use Rattle.bkfields.specs.declared.BkRead.the-variants as fields
 
 -- ---- behind the fields' answer
 

@@ -25,9 +25,9 @@ use Rattle.weak.specs.Weak.{isOn, weakPins}
 use Rattle.pairing.specs.Pairing.{pairAt}
 use Rattle.pairing.specs.Answers.{boxRows}
 use Rattle.pairing.proofs.Laws.{pair-compared}
-use Rattle.bk.specs.Bk.{bkFinish}
-use Rattle.bk.specs.Answers.{Placed}
-use Rattle.bk.specs.declared.Bk.{Bk}
+use Rattle.bkfinish.specs.BkFinish.{bkFinish}
+use Rattle.bkfields.specs.Answers.{Placed}
+use Rattle.bkfields.specs.declared.Bk.{Bk}
 
 -- ---- the finish, answer by answer
 

@@ -1,13 +1,13 @@
--- `bk::finish` meets its contract.
+-- `bkfinish::finish` meets its contract.
 -- Assumes nothing.
 use mathlib.Core.Path.{sym, ap, _∙_}
 use borrow.Author.Needs.{needs}
 use Rattle.pins.specs.Answers.{readingOf}
 use Rattle.pins.specs.declared.Reading.the-variants.{Bad}
 use Rattle.offsets.specs.Answers.{refusalIn}
-use Rattle.bk.proofs.Laws.{compared-fit, finish-unread, finish-long, finish-weak, finish-made}
-use Rattle.bk.proofs.finish.Statement.{statement}
-use Rattle.bk.proofs.finish.Tie as tie
+use Rattle.bkfinish.proofs.Laws.{compared-fit, finish-unread, finish-long, finish-weak, finish-made}
+use Rattle.bkfinish.proofs.finish.Statement.{statement}
+use Rattle.bkfinish.proofs.finish.Tie as tie
 
 pair-requires : tie.Need-pair-requires
 pair-requires c κs = search needs

@@ -1,4 +1,4 @@
--- `bk::read` meets its contract.
+-- `bkfields::read` meets its contract.
 -- Assumes nothing.
 use mathlib.Core.Path.{sym, ap, _∙_}
 use borrow.Author.Needs.{needs}
@@ -7,11 +7,11 @@ use Rattle.sealed.specs.Answers.{sealedFault}
 use Rattle.offsetting.specs.Answers.{offsettingFault}
 use Rattle.weaklist.specs.Answers.{weakFault}
 use Rattle.endings.specs.Answers.{endFault}
-use Rattle.bk.specs.Answers.{bkRead}
-use Rattle.bk.specs.declared.BkRead.the-variants.{Bad}
-use Rattle.bk.proofs.Reading.{no-keys, no-block, no-data, no-list, no-end, all-read}
-use Rattle.bk.proofs.read.Statement.{statement}
-use Rattle.bk.proofs.read.Tie as tie
+use Rattle.bkfields.specs.Answers.{bkRead}
+use Rattle.bkfields.specs.declared.BkRead.the-variants.{Bad}
+use Rattle.bkfields.proofs.Reading.{no-keys, no-block, no-data, no-list, no-end, all-read}
+use Rattle.bkfields.proofs.read.Statement.{statement}
+use Rattle.bkfields.proofs.read.Tie as tie
 
 read-keys-requires : tie.Need-read-keys-requires
 read-keys-requires c κs = search needs

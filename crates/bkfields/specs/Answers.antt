@@ -7,9 +7,9 @@ use Rattle.fields.specs.Answers.{noFault}
 use Rattle.fields.specs.declared.Fault.{Fault}
 use Rattle.weak.specs.Answers.{Lies}
 use Rattle.pairing.specs.Answers as inputs
-use Rattle.bk.specs.declared.Bk.{Bk}
-use Rattle.bk.specs.declared.BkRead.{BkRead}
-use Rattle.bk.specs.declared.BkRead.the-variants as fields
+use Rattle.bkfields.specs.declared.Bk.{Bk}
+use Rattle.bkfields.specs.declared.BkRead.{BkRead}
+use Rattle.bkfields.specs.declared.BkRead.the-variants as fields
 
 -- the fields, or the fault
 abbrev pub bkRead : Stage Bk → BkRead

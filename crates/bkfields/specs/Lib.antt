@@ -1,0 +1,2 @@
+pub mod BkFields
+pub mod Answers
