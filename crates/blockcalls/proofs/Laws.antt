@@ -12,7 +12,7 @@ use Rattle.nibbles.proofs.Lists.{Below, below-weaken}
 use Rattle.nibbles.proofs.Bytes.{nibs-length}
 use Rattle.numbers.specs.Numbers.{done, unless}
 use Rattle.numbers.specs.declared.Refusal.the-variants.{Room901}
-use Rattle.formats.specs.Formats.{codeOf, formatOf}
+use Rattle.codes.specs.Codes.{codeOf, formatOf}
 use Rattle.pins.specs.Pins.{pinHanded, sized, accountOf, accountField}
 use Rattle.numbers.proofs.Laws.{passed, then-done, value-of}
 use Rattle.pins.proofs.Laws.{Pinned, account-done, sized-done, handed-done}

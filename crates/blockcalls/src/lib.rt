@@ -7,7 +7,7 @@ ghost use Rattle.numbers.specs.Promise.{Does, quietly};
 ghost use Rattle.pins.specs.Answers.{readingOf};
 ghost use Rattle.answers.specs.Answers.{blockOf};
 ghost use Rattle.blockcalls.specs.BlockCalls.{readBlock, writeBlock};
-use formats::Chosen;
+use codes::Chosen;
 use numbers::Refusal;
 use numbers::Reply;
 use pins::Reading;
@@ -20,7 +20,7 @@ fn judged_reading(format: u32, block: &[u8], account: &[u8], room: usize) -> Rea
     if room < 12 {
         return Reading::Bad(Refusal::Room901);
     }
-    let sized = pins::sized_row(block, formats::block_width(format));
+    let sized = pins::sized_row(block, codes::block_width(format));
     let Row::Held(row) = sized else {
         return Reading::Bad(Refusal::Field15);
     };
@@ -47,7 +47,7 @@ pub fn read_block(format: u32, block: &[u8], account: &[u8], out: &mut [u8]) -> 
 fn judged_writing(format: u32, pin: &[u8], account: &[u8], fill: &[u8], room: usize) -> Row
     ensures { λ r. ⌜ r ≡ blockOf (writeBlock format (now (pin .entry)) (now (account .entry)) (now (fill .entry)) room) ⌝ }
 {
-    if room < formats::block_width(format) {
+    if room < codes::block_width(format) {
         return Row::Refused(Refusal::Room901);
     }
     let kept = pins::account(account);

@@ -13,10 +13,11 @@ use Rattle.nibbles.proofs.Bytes.{packs-nibs}
 use Rattle.numbers.specs.Numbers.{done}
 use Rattle.numbers.specs.declared.Refusal.the-variants.{Field15, Room901, NotHere69}
 use Rattle.numbers.proofs.Laws.{then-done, passed, value-of}
-use Rattle.formats.specs.Formats.{veiled, codeOf, formatOf, knownCode}
+use Rattle.formats.specs.Formats.{veiled}
+use Rattle.codes.specs.Codes.{codeOf, formatOf, knownCode}
 use Rattle.formats.specs.declared.Format.{Format}
 use Rattle.formats.specs.declared.Format.the-variants.{F03}
-use Rattle.formats.specs.declared.Code.the-variants.{Built}
+use Rattle.codes.specs.declared.Code.the-variants.{Built}
 use Rattle.pins.specs.Pins.{pinHanded, accountOf, accountField}
 use Rattle.blocks.specs.Blocks.{veil, readRow, writeRow}
 use Rattle.blockcalls.specs.BlockCalls.{readBlock, writeBlock}

@@ -12,9 +12,9 @@ use Rattle.nibbles.specs.Nibbles.{nibs, packs, within, every}
 use Rattle.numbers.specs.Numbers.{Outcome, done, refused, andThen, unless, numberOf}
 use Rattle.numbers.specs.Promise.{quietly}
 use Rattle.numbers.specs.declared.Refusal.the-variants.{Block20, Length24, NotHere69}
-use Rattle.formats.specs.Formats.{codeOf, formatOf, knownCode}
-use Rattle.formats.specs.declared.Code.{Code}
-use Rattle.formats.specs.declared.Code.the-variants.{Built, Known, Unknown}
+use Rattle.codes.specs.Codes.{codeOf, formatOf, knownCode}
+use Rattle.codes.specs.declared.Code.{Code}
+use Rattle.codes.specs.declared.Code.the-variants.{Built, Known, Unknown}
 use Rattle.formats.specs.declared.Format.{Format}
 use Rattle.formats.specs.declared.Format.the-variants.{F01, F03, F05, F34, F35, F47}
 use Rattle.pins.specs.Pins.{digit, pinLength, digitsHanded, pinHanded, accountField}

@@ -5,7 +5,7 @@ use mathlib.Core.List.{_∷_}
 use lib.ListN.{length}
 use borrow.Author.Tests.{le-leb, eq-eqb}
 use Rattle.nibbles.specs.Nibbles.{nibs}
-use Rattle.formats.specs.Formats.{codeOf}
+use Rattle.codes.specs.Codes.{codeOf}
 use Rattle.blocks.specs.Blocks.{readRow}
 use Rattle.blockcalls.specs.BlockCalls.{readBlock}
 use Rattle.claims_blocks.specs.Figures.{Begins2D}

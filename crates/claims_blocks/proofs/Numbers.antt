@@ -14,9 +14,9 @@ use Rattle.numbers.specs.Numbers.{Outcome, done, refused, unless}
 use Rattle.numbers.specs.Promise.{quietly}
 use Rattle.numbers.specs.declared.Refusal.{Refusal}
 use Rattle.numbers.specs.declared.Refusal.the-variants.{Field15, Block20, Format23, Length24, NotHere69, Room901}
-use Rattle.formats.specs.Formats.{codeOf, formatOf, isKnown, knownCode}
-use Rattle.formats.specs.declared.Code.{Code}
-use Rattle.formats.specs.declared.Code.the-variants.{Built, Known, Unknown}
+use Rattle.codes.specs.Codes.{codeOf, formatOf, isKnown, knownCode}
+use Rattle.codes.specs.declared.Code.{Code}
+use Rattle.codes.specs.declared.Code.the-variants.{Built, Known, Unknown}
 use Rattle.formats.specs.declared.Format.{Format}
 use Rattle.pins.specs.Pins.{digit, pinLength, digitsHanded, pinHanded, padded, accountOf, accountField, sized}
 use Rattle.blocks.specs.Blocks.{readRow, writeRow}

@@ -12,7 +12,7 @@ use Rattle.alphabet.specs.Alphabet.{allOf, valueOf}
 use Rattle.numbers.specs.Numbers.{Outcome, done}
 use Rattle.numbers.specs.Promise.{Does, quietly}
 use Rattle.numbers.specs.declared.Reply.{Reply}
-use Rattle.formats.specs.Formats.{codeOf}
+use Rattle.codes.specs.Codes.{codeOf}
 use Rattle.blocks.specs.Blocks.{contents, readRow, writeRow}
 use Rattle.blockcalls.specs.BlockCalls.{readBlock, writeBlock}
 use Rattle.pairs.specs.Pairs.{pairOf}

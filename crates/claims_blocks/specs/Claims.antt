@@ -8,7 +8,8 @@ use lib.ListN.{length, take}
 use Rattle.nibbles.specs.Nibbles.{nibs, within, every}
 use Rattle.numbers.specs.Numbers.{Outcome, done, refused}
 use Rattle.numbers.specs.declared.Refusal.the-variants.{Block20, Length24}
-use Rattle.formats.specs.Formats.{leadOf, codeOf}
+use Rattle.formats.specs.Formats.{leadOf}
+use Rattle.codes.specs.Codes.{codeOf}
 use Rattle.pins.specs.Pins.{accountOf}
 use Rattle.blocks.specs.Blocks.{readRow, writeRow}
 use Rattle.blockcalls.specs.BlockCalls.{readBlock, writeBlock}
@@ -16,7 +17,7 @@ use Rattle.formats.specs.declared.Format.{Format}
 use Rattle.formats.specs.declared.Format.the-variants.{F01, F03, F05, F34, F35, F47}
 use Rattle.formats.specs.declared.Lead.{Lead}
 use Rattle.formats.specs.declared.Lead.the-variants.{Bare, Control}
-use Rattle.formats.specs.declared.Code.the-variants.{Built}
+use Rattle.codes.specs.declared.Code.the-variants.{Built}
 use Rattle.pairs.specs.Pairs.{pairOf}
 use Rattle.translation.specs.Translation.{translateBlock}
 

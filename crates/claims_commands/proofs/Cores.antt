@@ -16,7 +16,7 @@ use Rattle.numbers.specs.declared.Refusal.{Refusal}
 use Rattle.numbers.specs.declared.Reply.{Reply}
 use Rattle.settings.specs.Settings.{usually}
 use Rattle.settings.specs.declared.Settings.{Settings}
-use Rattle.formats.specs.Formats.{codeOf}
+use Rattle.codes.specs.Codes.{codeOf}
 use Rattle.blocks.specs.Blocks.{contents, readRow}
 use Rattle.validation.specs.Validation.{shapeOf, validationRow}
 use Rattle.validation.proofs.Laws.{row-of-valid}
@@ -31,7 +31,8 @@ use Rattle.fields.specs.declared.Fault.{Fault}
 use Rattle.fields.proofs.Rulings.{heard-refused}
 use Rattle.lmk.specs.Lmk.{lmkField}
 use Rattle.keys.specs.Keys.{keyType, hexKey, lettered, key}
-use Rattle.weak.specs.Weak.{weakField, entries, isOn}
+use Rattle.weak.specs.Weak.{entries, isOn}
+use Rattle.weakfield.specs.WeakField.{weakField}
 use Rattle.keybox.specs.KeyBox.{slices, parities, boxed}
 use Rattle.responses.specs.Responses.{responding}
 use Rattle.offsetting.proofs.Laws.{offsetting-held}

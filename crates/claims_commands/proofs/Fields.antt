@@ -13,9 +13,9 @@ use Rattle.alphabet.specs.declared.Class.the-variants.{Digit, CapitalHex, Print
 use Rattle.numbers.specs.Numbers.{Outcome, done, refused, andThen, unless, numberOf}
 use Rattle.numbers.specs.declared.Refusal.{Refusal}
 use Rattle.numbers.specs.declared.Refusal.the-variants.{WeakList03, Field15, Format23, Table25, Key26, Use29, NotHere69}
-use Rattle.formats.specs.Formats.{codeOf, formatOf}
-use Rattle.formats.specs.declared.Code.{Code}
-use Rattle.formats.specs.declared.Code.the-variants.{Built, Known, Unknown}
+use Rattle.codes.specs.Codes.{codeOf, formatOf}
+use Rattle.codes.specs.declared.Code.{Code}
+use Rattle.codes.specs.declared.Code.the-variants.{Built, Known, Unknown}
 use Rattle.validation.specs.Validation.{widthOf, shapeOf, isValidation}
 use Rattle.fields.specs.Fields.{Found, Stage, read, faulty, run, number, twoDigits, marked, behind, trailerMark, longestTrailer, atMost, trailer, fielded, onward, Ruling, pointing, heard, outcome}
 use Rattle.fields.proofs.Rulings.{heard-pointing}
@@ -28,8 +28,8 @@ use Rattle.keylengths.specs.KeyLengths.{saidLength, blockLength}
 use Rattle.keyblocks.specs.KeyBlocks.{keyBlock}
 use Rattle.keys.specs.Keys.{type001, type002, typeFFF, onlyUOrT, onlyS, keyType, hexKey, letterU, letterT, letterS, admitted, lettered, key}
 use Rattle.keys.specs.declared.Letters.{Letters}
-use Rattle.weak.specs.Weak.{noneAt, weakField}
-use Rattle.weak.specs.Weak as list
+use Rattle.weakfield.specs.WeakField.{noneAt, weakField}
+use Rattle.weakfield.specs.WeakField as list
 use Rattle.formatfield.specs.FormatField.{allows, formatField}
 use Rattle.validationfield.specs.ValidationField.{validationField}
 use Rattle.keyfields.specs.KeyFields.{keys}

@@ -13,7 +13,7 @@ use Rattle.numbers.specs.Numbers.{done}
 use Rattle.numbers.specs.Promise.{Said}
 use Rattle.settings.specs.Settings.{usually}
 use Rattle.settings.specs.declared.Settings.{Settings}
-use Rattle.formats.specs.Formats as formats
+use Rattle.codes.specs.Codes as codes
 use Rattle.formats.specs.declared.Format.the-variants.{F01}
 use Rattle.blocks.specs.Blocks.{contents, readRow}
 use Rattle.ibm3624.specs.Ibm3624.{covers, differences}
@@ -23,7 +23,8 @@ use Rattle.frame.specs.declared.Code.the-variants as code
 use Rattle.fields.specs.Fields.{read, run, number, trailer}
 use Rattle.lmk.specs.Lmk.{lmkField}
 use Rattle.keys.specs.Keys.{keyType, hexKey, lettered, key}
-use Rattle.weak.specs.Weak.{noneAt, listed, weakField, entries, isOn}
+use Rattle.weak.specs.Weak.{entries, isOn}
+use Rattle.weakfield.specs.WeakField.{noneAt, listed, weakField}
 use Rattle.weak.specs.declared.Weak.{Weak}
 use Rattle.keybox.specs.KeyBox.{slices, parities, boxed}
 use Rattle.responses.specs.Responses.{roomToAnswer}
@@ -124,7 +125,7 @@ differ : (pin pin′ : List ℕ) → getD pin 4 0 ≡ 7 → getD pin′ 4 0 ≡ 
 differ pin pin′ h k e = omega (arith, ap (λ (ds : List ℕ). getD ds 4 0) e)
 
 pub assumptions-met : AssumptionsMet
-unfolding nibs xors every leading same allOf begins valueOf formats.codeOf contents readRow differences pinWithNatural isFramed opening run number trailer keyType hexKey lettered key lmkField listed weakField entries isOn keys formatField sealed shapeOf validationField offsetting weak end slices parities boxed bkFields bkFinish bkAnswer answerBy answered reading meets
+unfolding nibs xors every leading same allOf begins valueOf codes.codeOf contents readRow differences pinWithNatural isFramed opening run number trailer keyType hexKey lettered key lmkField listed weakField entries isOn keys formatField sealed shapeOf validationField offsetting weak end slices parities boxed bkFields bkFinish bkAnswer answerBy answered reading meets
 assumptions-met = (
   (
     meets usually 4 [] none runP9 runP10 pinP9 pinP10 (refl, refl, refl, refl, refl) (refl, refl, refl, refl, refl) (refl, refl, refl, refl) (differ (pinP9 .0) (pinP10 .0) refl refl),

@@ -7,7 +7,7 @@ use mathlib.Core.List.{List, [], _∷_}
 use lib.ListN.{length, getD, drop}
 use Rattle.nibbles.specs.Nibbles.{nibs, packs, xors, every, leading}
 use Rattle.alphabet.specs.Alphabet.{allOf, valueOf}
-use Rattle.formats.specs.Formats.{codeOf}
+use Rattle.codes.specs.Codes.{codeOf}
 use Rattle.blocks.specs.Blocks.{contents, readRow, writeRow}
 use Rattle.blockcalls.specs.BlockCalls.{readBlock, writeBlock}
 use Rattle.validation.specs.Validation.{shapeOf, validationRow, validationBlock}

@@ -1,6 +1,6 @@
 -- One answer to every promise of the crates of commands: each function cites the law of its shape.
 -- Assumes nothing.
-use Rattle.claims_functions.specs.Commands.{KeyBoxSettled, ResponsesSettled, FrameSettled, FieldsSettled, LmkSettled, UsesSettled, KeyLengthsSettled, KeyBlocksSettled, KeysSettled, WeakSettled, FormatFieldSettled, ValidationFieldSettled, KeyFieldsSettled, SealedSettled, OffsettingSettled, WeakListSettled, EndingsSettled, PairingSettled, BkFieldsSettled, BkFinishSettled, BkSettled, CommandsSettled}
+use Rattle.claims_functions.specs.Commands.{KeyBoxSettled, ResponsesSettled, FrameSettled, FieldsSettled, LmkSettled, UsesSettled, KeyLengthsSettled, KeyBlocksSettled, KeysSettled, WeakSettled, WeakFieldSettled, FormatFieldSettled, ValidationFieldSettled, KeyFieldsSettled, SealedSettled, OffsettingSettled, WeakListSettled, EndingsSettled, PairingSettled, BkFieldsSettled, BkFinishSettled, BkSettled, CommandsSettled}
 use Rattle.claims_functions.proofs.Once.{settled, left, answered}
 
 pub key-box-once : KeyBoxSettled
@@ -62,9 +62,13 @@ keys-once = record {
 
 pub weak-once : WeakSettled
 weak-once = record {
+  is-weak = λ κs a r r′ ends ends′. settled;
+}
+
+pub weak-field-once : WeakFieldSettled
+weak-field-once = record {
   WeakRead·refusal = λ κs a r r′ ends ends′. settled;
   weak-field = λ κs a r r′ ends ends′. settled;
-  is-weak = λ κs a r r′ ends ends′. settled;
 }
 
 pub format-field-once : FormatFieldSettled

@@ -1,6 +1,6 @@
 -- One answer to every promise of the ground: each function cites the law of its shape.
 -- Assumes nothing.
-use Rattle.claims_functions.specs.Ground.{NibblesSettled, AlphabetSettled, NumbersSettled, SettingsSettled, FormatsSettled, PinsSettled, ClassroomSettled}
+use Rattle.claims_functions.specs.Ground.{NibblesSettled, AlphabetSettled, SpellingSettled, NumbersSettled, SettingsSettled, FormatsSettled, CodesSettled, PinsSettled, ClassroomSettled}
 use Rattle.claims_functions.proofs.Once.{settled, left, replied, verdict}
 
 pub nibbles-once : NibblesSettled
@@ -22,6 +22,14 @@ alphabet-once = record {
   has-at = λ κs a r r′ ends ends′. settled;
   value = λ κs a r r′ ends ends′. settled;
   digit = λ κs a r r′ ends ends′. settled;
+}
+
+pub spelling-once : SpellingSettled
+spelling-once = record {
+  values = λ κs a r r′ ends ends′. settled;
+  digits = λ κs a r r′ ends ends′. settled;
+  class-end = λ κs a r r′ ends ends′. settled;
+  put-characters = λ κs a r r′ ends ends′. left 2;
 }
 
 pub numbers-once : NumbersSettled
@@ -49,6 +57,10 @@ formats-once = record {
   Lead·width = λ κs a r r′ ends ends′. settled;
   Fill·least = λ κs a r r′ ends ends′. settled;
   Fill·filled = λ κs a r r′ ends ends′. settled;
+}
+
+pub codes-once : CodesSettled
+codes-once = record {
   Code·of = λ κs a r r′ ends ends′. settled;
   Code·is-known = λ κs a r r′ ends ends′. settled;
   Chosen·by = λ κs a r r′ ends ends′. settled;
@@ -62,15 +74,11 @@ pins-once = record {
   Reading·refusal = λ κs a r r′ ends ends′. settled;
   Row·refusal = λ κs a r r′ ends ends′. settled;
   sized-row = λ κs a r r′ ends ends′. settled;
-  values = λ κs a r r′ ends ends′. settled;
-  digits = λ κs a r r′ ends ends′. settled;
-  class-end = λ κs a r r′ ends ends′. settled;
   account = λ κs a r r′ ends ends′. settled;
   field = λ κs a r r′ ends ends′. settled;
   pin-length = λ κs a r r′ ends ends′. settled;
   handed = λ κs a r r′ ends ends′. settled;
   packed = λ κs a r r′ ends ends′. settled;
-  put-characters = λ κs a r r′ ends ends′. left 2;
 }
 
 pub classroom-once : ClassroomSettled

@@ -12,6 +12,7 @@ use Rattle.keylengths.proofs as KeyLengths
 use Rattle.keyblocks.proofs as KeyBlocks
 use Rattle.keys.proofs as Keys
 use Rattle.weak.proofs as Weak
+use Rattle.weakfield.proofs as WeakField
 use Rattle.formatfield.proofs as FormatField
 use Rattle.validationfield.proofs as ValidationField
 use Rattle.keyfields.proofs as KeyFields
@@ -82,9 +83,12 @@ pub record KeysSettled : Type 0 where
 
 -- every public function of weak
 pub record WeakSettled : Type 0 where
-  pub WeakRead·refusal : Settled Weak.WeakRead.refusal.ended Weak.WeakRead.refusal.Reads.Learnt
-  pub weak-field : Settled Weak.weak_field.ended Weak.weak_field.Reads.Learnt
   pub is-weak : Settled Weak.is_weak.ended Weak.is_weak.Reads.Learnt
+
+-- every public function of weakfield
+pub record WeakFieldSettled : Type 0 where
+  pub WeakRead·refusal : Settled WeakField.WeakRead.refusal.ended WeakField.WeakRead.refusal.Reads.Learnt
+  pub weak-field : Settled WeakField.weak_field.ended WeakField.weak_field.Reads.Learnt
 
 -- every public function of formatfield
 pub record FormatFieldSettled : Type 0 where

@@ -3,9 +3,11 @@
 -- requires: outside it a contract promises nothing.
 use Rattle.nibbles.proofs as Nibbles
 use Rattle.alphabet.proofs as Alphabet
+use Rattle.spelling.proofs as Spelling
 use Rattle.numbers.proofs as Numbers
 use Rattle.settings.proofs as Settings
 use Rattle.formats.proofs as Formats
+use Rattle.codes.proofs as Codes
 use Rattle.pins.proofs as Pins
 use Rattle.classroom.proofs as Classroom
 use Rattle.claims_functions.specs.Once.{Settled}
@@ -28,6 +30,13 @@ pub record AlphabetSettled : Type 0 where
   pub has-at : Settled Alphabet.has_at.ended Alphabet.has_at.Reads.Learnt
   pub value : Settled Alphabet.value.ended Alphabet.value.Reads.Learnt
   pub digit : Settled Alphabet.digit.ended Alphabet.digit.Reads.Learnt
+
+-- every public function of spelling
+pub record SpellingSettled : Type 0 where
+  pub values : Settled Spelling.values.ended Spelling.values.Reads.Learnt
+  pub digits : Settled Spelling.digits.ended Spelling.digits.Reads.Learnt
+  pub class-end : Settled Spelling.class_end.ended Spelling.class_end.Reads.Learnt
+  pub put-characters : Settled Spelling.put_characters.ended Spelling.put_characters.Reads.Learnt
 
 -- every public function of numbers
 pub record NumbersSettled : Type 0 where
@@ -52,11 +61,14 @@ pub record FormatsSettled : Type 0 where
   pub Lead·width : Settled Formats.Lead.width.ended Formats.Lead.width.Reads.Learnt
   pub Fill·least : Settled Formats.Fill.least.ended Formats.Fill.least.Reads.Learnt
   pub Fill·filled : Settled Formats.Fill.filled.ended Formats.Fill.filled.Reads.Learnt
-  pub Code·of : Settled Formats.Code.of.ended Formats.Code.of.Reads.Learnt
-  pub Code·is-known : Settled Formats.Code.is_known.ended Formats.Code.is_known.Reads.Learnt
-  pub Chosen·by : Settled Formats.Chosen.by.ended Formats.Chosen.by.Reads.Learnt
-  pub Chosen·refusal : Settled Formats.Chosen.refusal.ended Formats.Chosen.refusal.Reads.Learnt
-  pub block-width : Settled Formats.block_width.ended Formats.block_width.Reads.Learnt
+
+-- every public function of codes
+pub record CodesSettled : Type 0 where
+  pub Code·of : Settled Codes.Code.of.ended Codes.Code.of.Reads.Learnt
+  pub Code·is-known : Settled Codes.Code.is_known.ended Codes.Code.is_known.Reads.Learnt
+  pub Chosen·by : Settled Codes.Chosen.by.ended Codes.Chosen.by.Reads.Learnt
+  pub Chosen·refusal : Settled Codes.Chosen.refusal.ended Codes.Chosen.refusal.Reads.Learnt
+  pub block-width : Settled Codes.block_width.ended Codes.block_width.Reads.Learnt
 
 -- every public function of pins
 pub record PinsSettled : Type 0 where
@@ -64,15 +76,11 @@ pub record PinsSettled : Type 0 where
   pub Reading·refusal : Settled Pins.Reading.refusal.ended Pins.Reading.refusal.Reads.Learnt
   pub Row·refusal : Settled Pins.Row.refusal.ended Pins.Row.refusal.Reads.Learnt
   pub sized-row : Settled Pins.sized_row.ended Pins.sized_row.Reads.Learnt
-  pub values : Settled Pins.values.ended Pins.values.Reads.Learnt
-  pub digits : Settled Pins.digits.ended Pins.digits.Reads.Learnt
-  pub class-end : Settled Pins.class_end.ended Pins.class_end.Reads.Learnt
   pub account : Settled Pins.account.ended Pins.account.Reads.Learnt
   pub field : Settled Pins.field.ended Pins.field.Reads.Learnt
   pub pin-length : Settled Pins.pin_length.ended Pins.pin_length.Reads.Learnt
   pub handed : Settled Pins.handed.ended Pins.handed.Reads.Learnt
   pub packed : Settled Pins.packed.ended Pins.packed.Reads.Learnt
-  pub put-characters : Settled Pins.put_characters.ended Pins.put_characters.Reads.Learnt
 
 -- every public function of classroom
 pub record ClassroomSettled : Type 0 where

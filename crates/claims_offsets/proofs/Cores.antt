@@ -9,7 +9,7 @@ use lib.ListN.{length}
 use borrow.Author.Tests.{le-leb}
 use Rattle.nibbles.specs.Nibbles.{nibs, xors, every, leading}
 use Rattle.alphabet.specs.Alphabet.{allOf, valueOf}
-use Rattle.formats.specs.Formats.{codeOf}
+use Rattle.codes.specs.Codes.{codeOf}
 use Rattle.blocks.specs.Blocks.{contents, readRow}
 use Rattle.ibm3624.specs.Ibm3624.{differences}
 use Rattle.offsets.specs.Offsets.{offsetJudged, offsetMade}

@@ -14,7 +14,7 @@ use Rattle.nibbles.proofs.Runs.{inside-low, every-below}
 use Rattle.numbers.specs.Numbers.{Outcome, done, unless}
 use Rattle.numbers.specs.declared.Refusal.the-variants.{Field15, Check81, Room901}
 use Rattle.numbers.proofs.Laws.{then-done, passed, value-of}
-use Rattle.formats.specs.Formats.{codeOf, formatOf}
+use Rattle.codes.specs.Codes.{codeOf, formatOf}
 use Rattle.pins.specs.Pins.{lastOf, accountOf, accountField, sized}
 use Rattle.pins.proofs.Laws.{sized-done, account-done}
 use Rattle.blocks.specs.Blocks.{readRow}

@@ -14,9 +14,9 @@ use Rattle.alphabet.specs.declared.Class.the-variants.{Digit}
 use Rattle.numbers.specs.Numbers.{Outcome, unless}
 use Rattle.numbers.specs.declared.Refusal.{Refusal}
 use Rattle.numbers.specs.declared.Refusal.the-variants.{Unverified01, Field15, Block20, Format23, Length24, Table25, NotHere69, Check81, Room901}
-use Rattle.formats.specs.Formats.{codeOf, formatOf}
-use Rattle.formats.specs.declared.Code.{Code}
-use Rattle.formats.specs.declared.Code.the-variants.{Built, Known, Unknown}
+use Rattle.codes.specs.Codes.{codeOf, formatOf}
+use Rattle.codes.specs.declared.Code.{Code}
+use Rattle.codes.specs.declared.Code.the-variants.{Built, Known, Unknown}
 use Rattle.formats.specs.declared.Format.{Format}
 use Rattle.pins.specs.Pins.{digit, pinLength, digitsHanded, pinHanded, padded, accountOf, accountField, sized}
 use Rattle.blocks.specs.Blocks.{readRow}

@@ -8,7 +8,7 @@ use lib.ListN.{length}
 use lib.IntN.{ℤ, natAbs}
 use Rattle.numbers.specs.Numbers.{Outcome, done, refused, andThen}
 use Rattle.numbers.specs.declared.Refusal.the-variants.{Unverified01}
-use Rattle.formats.specs.Formats.{codeOf, formatOf, blockWidth}
+use Rattle.codes.specs.Codes.{codeOf, formatOf, blockWidth}
 use Rattle.formats.specs.declared.Format.{Format}
 use Rattle.pins.specs.Pins.{accountOf, accountField, sized}
 use Rattle.blocks.specs.Blocks.{readRow}

@@ -4,7 +4,8 @@ use mathlib.Core.List.{List}
 use mathlib.Core.Bool.{Bool, not, _||_}
 use Rattle.numbers.specs.Numbers.{andThen, unless}
 use Rattle.numbers.specs.declared.Refusal.the-variants.{Field15, NotHere69}
-use Rattle.formats.specs.Formats.{codeOf, formatOf, is01or47}
+use Rattle.formats.specs.Formats.{is01or47}
+use Rattle.codes.specs.Codes.{codeOf, formatOf}
 use Rattle.formats.specs.declared.Format.{Format}
 use Rattle.fields.specs.Fields.{Found, number}
 

@@ -3,9 +3,9 @@ ghost use mathlib.Core.Path.{_≡_};
 ghost use lib.ListN.{drop};
 ghost use Rattle.formatfield.specs.FormatField.{allows, formatField};
 ghost use Rattle.formatfield.specs.Answers.{formatRead, formatRefusal};
+use codes::Chosen;
 use fields::Cursor;
 use fields::Value;
-use formats::Chosen;
 use formats::Format;
 use numbers::Refusal;
 

@@ -1,2 +1,1 @@
 pub mod Formats
-pub mod Answers

@@ -1,8 +1,6 @@
-// The table of PIN block formats, and the codes that name them.
+// The table of PIN block formats.
 ghost use mathlib.Core.Path.{_≡_};
-ghost use Rattle.formats.specs.Formats.{leadOf, fillRead, fillWritten, veiled, leadWidth, leastFill, filled, codeOf, isKnown, formatOf, blockWidth, is01or47};
-ghost use Rattle.formats.specs.Answers.{chosenOf, refusalIn};
-use numbers::Refusal;
+ghost use Rattle.formats.specs.Formats.{leadOf, fillRead, fillWritten, veiled, leadWidth, leastFill, filled, is01or47};
 
 pub enum Format {
     F01,
@@ -11,19 +9,6 @@ pub enum Format {
     F34,
     F35,
     F47,
-}
-
-// What a format code names.
-pub enum Code {
-    Built(Format),
-    Known,
-    Unknown,
-}
-
-// The format of a code, or why it has none here.
-pub enum Chosen {
-    Of(Format),
-    Bad(Refusal),
 }
 
 // What leads the digits: nothing, or C and the PIN's length.
@@ -137,63 +122,4 @@ impl Fill {
             Fill::Any => n,
         }
     }
-}
-
-impl Code {
-    pub fn of(code: u32) -> Code
-        ensures { λ r. ⌜ r ≡ codeOf code ⌝ }
-    {
-        match code {
-            1 => Code::Built(Format::F01),
-            3 => Code::Built(Format::F03),
-            5 => Code::Built(Format::F05),
-            34 => Code::Built(Format::F34),
-            35 => Code::Built(Format::F35),
-            47 => Code::Built(Format::F47),
-            41 => Code::Known,
-            42 => Code::Known,
-            48 => Code::Known,
-            _ => Code::Unknown,
-        }
-    }
-
-    pub fn is_known(self) -> bool
-        ensures { λ r. ⌜ r ≡ isKnown self ⌝ }
-    {
-        match self {
-            Code::Built(_) => true,
-            Code::Known => true,
-            Code::Unknown => false,
-        }
-    }
-}
-
-impl Chosen {
-    // The format that a code names: 23, then 69.
-    pub fn by(code: u32) -> Chosen
-        ensures { λ r. ⌜ r ≡ chosenOf (formatOf (codeOf code)) ⌝ }
-    {
-        match Code::of(code) {
-            Code::Built(f) => Chosen::Of(f),
-            Code::Known => Chosen::Bad(Refusal::NotHere69),
-            Code::Unknown => Chosen::Bad(Refusal::Format23),
-        }
-    }
-
-    // Why there is no format; asked only where there is none.
-    pub fn refusal(self) -> Refusal
-        ensures { λ r. ⌜ r ≡ refusalIn self ⌝ }
-    {
-        match self {
-            Chosen::Of(_) => Refusal::NotHere69,
-            Chosen::Bad(q) => q,
-        }
-    }
-}
-
-// The bytes of a block; every format that is built has eight.
-pub fn block_width(code: u32) -> usize
-    ensures { λ r. ⌜ r ≡ blockWidth code ⌝ }
-{
-    8
 }

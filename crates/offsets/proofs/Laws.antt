@@ -20,7 +20,7 @@ use Rattle.numbers.proofs.Laws.{passed, failed, then-done, value-of}
 use Rattle.pins.specs.Pins.{digit, pinHanded, digitsHanded, accountOf, accountField, sized, padded}
 use Rattle.alphabet.specs.Alphabet.{allOf, valueOf}
 use Rattle.alphabet.specs.declared.Class.the-variants.{Digit}
-use Rattle.formats.specs.Formats.{codeOf, formatOf}
+use Rattle.codes.specs.Codes.{codeOf, formatOf}
 use Rattle.formats.specs.declared.Format.{Format}
 use Rattle.pins.proofs.Laws.{Pinned, handed-done, account-done, digits-below, through, then-alike}
 use Rattle.blocks.specs.Blocks.{readRow}

@@ -7,7 +7,7 @@ use lib.IntN.{ℤ}
 use lib.Dec.{leb}
 use Rattle.numbers.specs.Numbers.{Outcome, done, andThen, unless}
 use Rattle.numbers.specs.declared.Refusal.the-variants.{Room901}
-use Rattle.formats.specs.Formats.{codeOf, formatOf, blockWidth}
+use Rattle.codes.specs.Codes.{codeOf, formatOf, blockWidth}
 use Rattle.formats.specs.declared.Format.{Format}
 use Rattle.pins.specs.Pins.{pinHanded, accountOf, accountField, sized}
 use Rattle.blocks.specs.Blocks.{readRow}

@@ -12,7 +12,7 @@ ghost use Rattle.naturals.specs.Answers.{Decimal};
 ghost use Rattle.offsets.specs.Offsets.{given, pinWithNatural, pinAndNatural, digitsGiven, offsetFor, offsetJudged, digitsJudged, offsetMade, offsetOfDigits, differencesOf};
 ghost use Rattle.offsets.specs.Answers.{givenOf, comparisonOf, refusalIn, rowsIn, pairIn, Fit, textOf, Roomy};
 use alphabet::Class;
-use formats::Chosen;
+use codes::Chosen;
 use formats::Format;
 use numbers::Refusal;
 use numbers::Reply;
@@ -77,7 +77,7 @@ pub fn taken(
     if 12 < check {
         return Given::Bad(Refusal::Field15);
     }
-    let sized = pins::sized_row(block, formats::block_width(format));
+    let sized = pins::sized_row(block, codes::block_width(format));
     let Row::Held(row) = sized else {
         return Given::Bad(Refusal::Field15);
     };

@@ -16,7 +16,7 @@ pub fn put_offset(m: usize, digits: u64, out: &mut [u8])
     requires { ⌜ (m ≤ 12) × (12 ≤ length (now out)) ⌝ }
     ensures { λ _. ⌜ now (out .exit) ≡ offsetText (row m digits) ++ drop 12 (now (out .entry)) ⌝ }
 {
-    pins::put_characters(digits, m, out);
+    spelling::put_characters(digits, m, out);
     let mut i = m;
     while i < 12 {
         out[i] = b'F';
@@ -46,7 +46,7 @@ pub fn presented(characters: &[u8]) -> Reading
     if characters.len() != 12 {
         return Reading::Bad(Refusal::Field15);
     }
-    let n = pins::class_end(Class::Digit, characters);
+    let n = spelling::class_end(Class::Digit, characters);
     if n < 4 {
         return Reading::Bad(Refusal::Field15);
     }
@@ -55,6 +55,6 @@ pub fn presented(characters: &[u8]) -> Reading
     }
     Reading::Got(Pin {
         length: n,
-        digits: pins::values(&characters[..n]),
+        digits: spelling::values(&characters[..n]),
     })
 }

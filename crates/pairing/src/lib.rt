@@ -20,7 +20,7 @@ fn account_at(command: &[u8], inputs: Offsetting) -> u64
 {
     let from = inputs.account;
     let to = from + 12;
-    pins::digits(&command[from..to])
+    spelling::digits(&command[from..to])
 }
 
 // The block that the key box must encipher, of account and validation data.

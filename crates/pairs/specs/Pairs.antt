@@ -3,7 +3,7 @@ use Prim.Native.Nat.{ℕ}
 use mathlib.Core.Bool.{Bool}
 use Rattle.numbers.specs.Numbers.{Outcome, andThen, unless}
 use Rattle.numbers.specs.declared.Refusal.the-variants.{NotHere69}
-use Rattle.formats.specs.Formats.{codeOf, knownCode, formatOf}
+use Rattle.codes.specs.Codes.{codeOf, knownCode, formatOf}
 use Rattle.formats.specs.declared.Format.{Format}
 use Rattle.restriction.specs.Restriction.{permitted}
 

@@ -2,8 +2,8 @@
 ghost use mathlib.Core.Path.{_≡_};
 ghost use Rattle.pairs.specs.Pairs.{pairOf};
 ghost use Rattle.pairs.specs.Answers.{pairFrom, refusalIn};
-use formats::Chosen;
-use formats::Code;
+use codes::Chosen;
+use codes::Code;
 use formats::Format;
 use numbers::Refusal;
 

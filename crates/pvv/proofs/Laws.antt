@@ -20,7 +20,7 @@ use Rattle.numbers.specs.Numbers.{Outcome, done, refused, unless, andThen}
 use Rattle.numbers.specs.declared.Refusal.{Refusal}
 use Rattle.numbers.specs.declared.Refusal.the-variants.{Unverified01, Field15, Room901}
 use Rattle.numbers.proofs.Laws.{then-done, passed, failed, value-of}
-use Rattle.formats.specs.Formats.{codeOf, formatOf}
+use Rattle.codes.specs.Codes.{codeOf, formatOf}
 use Rattle.pins.specs.Pins.{lastOf, accountOf, accountField, sized, verdict}
 use Rattle.pins.specs.Answers.{rowOf}
 use Rattle.pins.specs.declared.Row.{Row}

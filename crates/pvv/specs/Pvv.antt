@@ -9,7 +9,7 @@ use Rattle.alphabet.specs.Alphabet.{allOf, valueOf, characters}
 use Rattle.alphabet.specs.declared.Class.the-variants.{Digit}
 use Rattle.numbers.specs.Numbers.{Outcome, done, andThen, unless}
 use Rattle.numbers.specs.declared.Refusal.the-variants.{Field15, Room901}
-use Rattle.formats.specs.Formats.{codeOf, formatOf, blockWidth}
+use Rattle.codes.specs.Codes.{codeOf, formatOf, blockWidth}
 use Rattle.pins.specs.Pins.{accountOf, accountField, sized, verdict}
 use Rattle.blocks.specs.Blocks.{readRow}
 use Rattle.pvvdigits.specs.PvvDigits.{pvvOf}

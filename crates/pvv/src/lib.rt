@@ -10,7 +10,7 @@ ghost use Rattle.answers.specs.Answers.{blockOf};
 ghost use Rattle.pvv.specs.Pvv.{presented, pvvGiven, pinRead, pvvInput, pvvMade, pvvVerdict};
 ghost use Rattle.pvv.specs.Answers.{givenOf, fieldsRefusal, rowsIn};
 use alphabet::Class;
-use formats::Chosen;
+use codes::Chosen;
 use numbers::Refusal;
 use numbers::Reply;
 use pins::Reading;
@@ -46,7 +46,7 @@ impl Given {
 fn judged_fields(format: u32, index: u32, block: &[u8], account: &[u8]) -> Given
     ensures { λ r. ⌜ r ≡ givenOf (pvvGiven format index (now (block .entry)) (now (account .entry))) ⌝ }
 {
-    let sized = pins::sized_row(block, formats::block_width(format));
+    let sized = pins::sized_row(block, codes::block_width(format));
     let Row::Held(row) = sized else {
         return Given::Bad(Refusal::Field15);
     };
@@ -113,7 +113,7 @@ pub fn pvv(enciphered: &[u8], out: &mut [u8]) -> Reply
     let Row::Held(row) = sized else {
         return Reply::refused(Refusal::Field15);
     };
-    pins::put_characters(pvvdigits::digits_of(row), 4, out);
+    spelling::put_characters(pvvdigits::digits_of(row), 4, out);
     Reply::done(4)
 }
 
@@ -127,7 +127,7 @@ fn presented_row(pvv: &[u8]) -> Row
     if !alphabet::all_of(Class::Digit, pvv, 0, 4) {
         return Row::Refused(Refusal::Field15);
     }
-    Row::Held(pins::values(pvv))
+    Row::Held(spelling::values(pvv))
 }
 
 // Judges the call that gives the verdict: 15 for block, account, index, enciphered input and PVV, 23, 69, the block, 01.

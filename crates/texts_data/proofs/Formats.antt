@@ -12,11 +12,11 @@ use borrow.Author.Tests.{eqb-true}
 use Rattle.numbers.specs.Numbers.{done, andThen, unless}
 use Rattle.numbers.specs.declared.Refusal.the-variants.{Field15, NotHere69}
 use Rattle.numbers.proofs.Laws.{then-done, passed, value-of}
-use Rattle.formats.specs.Formats.{codeOf, formatOf}
+use Rattle.codes.specs.Codes.{codeOf, formatOf}
 use Rattle.formats.specs.declared.Format.{Format}
 use Rattle.formats.specs.declared.Format.the-variants.{F01, F03, F05, F34, F35, F47}
-use Rattle.formats.specs.declared.Code.{Code}
-use Rattle.formats.specs.declared.Code.the-variants.{Built, Known, Unknown}
+use Rattle.codes.specs.declared.Code.{Code}
+use Rattle.codes.specs.declared.Code.the-variants.{Built, Known, Unknown}
 use Rattle.fields.specs.Fields.{number}
 use Rattle.formatfield.specs.FormatField.{allows, formatField}
 use Rattle.texts.specs.Texts.{asTwoDigits}

@@ -12,9 +12,9 @@ use Rattle.alphabet.specs.Alphabet.{allOf}
 use Rattle.alphabet.specs.declared.Class.the-variants.{Digit}
 use Rattle.numbers.specs.Numbers.{done}
 use Rattle.numbers.specs.declared.Refusal.the-variants.{Field15, WeakList03}
-use Rattle.weak.specs.Weak.{weakField}
+use Rattle.weakfield.specs.WeakField.{weakField}
 use Rattle.weak.specs.declared.Weak.{Weak}
-use Rattle.weak.proofs.Laws.{Tells, unmarked, empty, filled, weak-tells, tells-weak}
+use Rattle.weakfield.proofs.Laws.{Tells, unmarked, empty, filled, weak-tells, tells-weak}
 use Rattle.texts.specs.Texts.{asTwoDigits, together, Optional, absent, present}
 use Rattle.texts.specs.Exact.{Opens, Exact}
 use Rattle.texts.proofs.Runs.{all-append, all-both, fronts, two-told}

@@ -8,7 +8,7 @@ use Rattle.alphabet.specs.Alphabet.{begins}
 use Rattle.formats.specs.declared.Format.{Format}
 use Rattle.validation.specs.declared.Shape.{Shape}
 use Rattle.validation.specs.declared.Shape.the-variants.{Template, Whole}
-use Rattle.weak.specs.Weak.{noneAt}
+use Rattle.weakfield.specs.WeakField.{noneAt}
 use Rattle.weak.specs.declared.Weak.{Weak}
 use Rattle.texts.specs.Texts.{Optional, absent, present, optionalText}
 use Rattle.texts.specs.Exact.{Writing}

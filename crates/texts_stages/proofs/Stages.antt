@@ -22,7 +22,7 @@ use Rattle.lmk.specs.Lmk.{lmkField}
 use Rattle.lmk.specs.declared.Lmk.{Lmk}
 use Rattle.uses.specs.declared.Use.{Use}
 use Rattle.keys.specs.Keys.{keyType, key}
-use Rattle.weak.specs.Weak.{weakField}
+use Rattle.weakfield.specs.WeakField.{weakField}
 use Rattle.formatfield.specs.FormatField.{formatField}
 use Rattle.validationfield.specs.ValidationField.{validationField}
 use Rattle.keyfields.specs.KeyFields.{keys}

@@ -6,7 +6,7 @@ use lib.Dec.{leb}
 use Rattle.nibbles.specs.Nibbles.{packs}
 use Rattle.numbers.specs.Numbers.{Outcome, done, andThen, unless}
 use Rattle.numbers.specs.declared.Refusal.the-variants.{Room901}
-use Rattle.formats.specs.Formats.{blockWidth}
+use Rattle.codes.specs.Codes.{blockWidth}
 use Rattle.pins.specs.Pins.{accountOf, accountField, sized}
 use Rattle.blocks.specs.Blocks.{readRow, writeRow}
 use Rattle.pairs.specs.Pairs.{pairOf}

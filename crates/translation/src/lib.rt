@@ -43,10 +43,10 @@ fn judged(
 ) -> Row
     ensures { λ r. ⌜ r ≡ blockOf (translateBlock (settings .restricted) from to (now (block .entry)) (now (account .entry)) (now (fill .entry)) room) ⌝ }
 {
-    if room < formats::block_width(to) {
+    if room < codes::block_width(to) {
         return Row::Refused(Refusal::Room901);
     }
-    let sized = pins::sized_row(block, formats::block_width(from));
+    let sized = pins::sized_row(block, codes::block_width(from));
     let Row::Held(row) = sized else {
         return Row::Refused(Refusal::Field15);
     };

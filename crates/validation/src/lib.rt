@@ -26,8 +26,8 @@ fn with_account(account: u64, s: &[u8], at: usize) -> u64
     ensures { λ r. ⌜ r ≡ word (replaced (row 12 account) at (now (s .entry))) ⌝ }
 {
     let behind = at + 1;
-    let front = pins::values(&s[..at]);
-    let back = pins::values(&s[behind..]);
+    let front = spelling::values(&s[..at]);
+    let back = spelling::values(&s[behind..]);
     let last_five = nibbles::part(account, 7, 5);
     nibbles::join(front, at, nibbles::join(last_five, 5, back))
 }
@@ -39,7 +39,7 @@ fn template(s: &[u8]) -> Shape
     if s.len() != Shape::TEMPLATE_WIDTH {
         return Shape::Neither;
     }
-    let at = pins::class_end(Class::CapitalHex, s);
+    let at = spelling::class_end(Class::CapitalHex, s);
     if 12 <= at {
         return Shape::Neither;
     }
@@ -103,7 +103,7 @@ impl Shape {
     {
         match self {
             Shape::Template(at) => Row::Held(with_account(account, validation, at)),
-            Shape::Whole => Row::Held(pins::values(&validation[1..])),
+            Shape::Whole => Row::Held(spelling::values(&validation[1..])),
             Shape::Neither => Row::Refused(Refusal::Field15),
         }
     }

@@ -15,7 +15,7 @@ use Rattle.pins.specs.declared.Reading.the-variants.{Got}
 use Rattle.pins.specs.Answers.{readingOf}
 use Rattle.pins.specs.Pins.{accountOf, accountField, sized}
 use Rattle.pins.proofs.Laws.{reading-got, through, then-alike}
-use Rattle.formats.specs.Formats.{codeOf, formatOf}
+use Rattle.codes.specs.Codes.{codeOf, formatOf}
 use Rattle.blocks.specs.Blocks.{readRow}
 use Rattle.answers.specs.Answers.{digitsOf}
 use Rattle.nibbles.specs.Nibbles.{row, word, within, every, same}

@@ -7,7 +7,7 @@ use lib.Dec.{eqb}
 use Rattle.nibbles.specs.Nibbles.{same}
 use Rattle.numbers.specs.Numbers.{Outcome, andThen, unless}
 use Rattle.numbers.specs.declared.Refusal.the-variants.{Check81}
-use Rattle.formats.specs.Formats.{codeOf, formatOf, blockWidth}
+use Rattle.codes.specs.Codes.{codeOf, formatOf, blockWidth}
 use Rattle.pins.specs.Pins.{accountOf, accountField, sized, verdict}
 use Rattle.blocks.specs.Blocks.{readRow}
 use Rattle.naturals.specs.Naturals.{tableSized, tableOf, naturalOf}

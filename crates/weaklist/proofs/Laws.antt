@@ -9,10 +9,10 @@ use Rattle.fields.specs.Fields.{Stage, read, faulty}
 use Rattle.fields.specs.declared.Cursor.{Cursor}
 use Rattle.fields.specs.declared.Fault.{Fault}
 use Rattle.fields.proofs.Reading.{field-read, read-once, inside-from}
-use Rattle.weak.specs.Weak.{weakField}
+use Rattle.weakfield.specs.WeakField.{weakField}
 use Rattle.weak.specs.Answers.{Lies}
 use Rattle.weak.specs.declared.Weak.{Weak}
-use Rattle.weak.proofs.Laws.{weak-lies, weak-onward}
+use Rattle.weakfield.proofs.Laws.{weak-lies, weak-onward}
 use Rattle.weaklist.specs.WeakList.{weak}
 use Rattle.weaklist.specs.Answers.{weakStage}
 use Rattle.weaklist.specs.declared.WeakStage.the-variants as listed

@@ -2,7 +2,7 @@
 use Prim.Native.Nat.{ℕ}
 use mathlib.Core.List.{List}
 use Rattle.fields.specs.Fields.{Stage, read, field}
-use Rattle.weak.specs.Weak.{weakField}
+use Rattle.weakfield.specs.WeakField.{weakField}
 use Rattle.weak.specs.declared.Weak.{Weak}
 
 -- "10. Optional ;, weak count, …": the mark is the command's

@@ -5,7 +5,7 @@ ghost use Rattle.weaklist.specs.Answers.{weakStage, weakFault};
 use fields::Cursor;
 use fields::Fault;
 use weak::Weak;
-use weak::WeakRead;
+use weakfield::WeakRead;
 
 pub enum WeakStage {
     Got(Weak, Cursor),
@@ -28,7 +28,7 @@ impl WeakStage {
 pub fn read_weak(command: &[u8], start: Cursor, field: usize, mark: u8) -> WeakStage
     ensures { λ r. ⌜ r ≡ weakStage (weak field mark (now (command .entry)) (start .at)) ⌝ }
 {
-    let listed = weak::weak_field(start, command, mark);
+    let listed = weakfield::weak_field(start, command, mark);
     let WeakRead::Got(weak, next) = listed else {
         return WeakStage::Bad(fields::fault_at(listed.refusal(), field, start));
     };

@@ -12,9 +12,9 @@ use Rattle.pins.proofs.Laws.{sized-held, sized-not, account-held, account-not, 
 use Rattle.pins.specs.declared.Reading.the-variants.{Bad}
 use Rattle.pins.specs.Answers.{rowOf, readingOf}
 use Rattle.pins.specs.Pins.{sized}
-use Rattle.formats.proofs.Laws.{chosen-of, chosen-bad}
-use Rattle.formats.specs.Answers.{refusalIn}
-use Rattle.formats.specs.Formats.{codeOf, formatOf}
+use Rattle.codes.proofs.Laws.{chosen-of, chosen-bad}
+use Rattle.codes.specs.Answers.{refusalIn}
+use Rattle.codes.specs.Codes.{codeOf, formatOf}
 use Rattle.nibbles.proofs.Bytes.{bytes-below}
 use Rattle.nibbles.specs.Nibbles.{nibs}
 use Rattle.blockcalls.proofs.judged_reading.Statement.{statement}

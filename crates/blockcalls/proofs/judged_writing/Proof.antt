@@ -14,9 +14,9 @@ use Rattle.pins.proofs.Laws.{sized-held, sized-not, account-held, account-not, 
 use Rattle.pins.specs.declared.Row.the-variants.{Held, Refused}
 use Rattle.pins.specs.Answers as answers
 use Rattle.pins.specs.Pins.{pinHanded, accountField}
-use Rattle.formats.proofs.Laws.{chosen-of, chosen-bad}
-use Rattle.formats.specs.Answers.{refusalIn}
-use Rattle.formats.specs.Formats.{codeOf, formatOf}
+use Rattle.codes.proofs.Laws.{chosen-of, chosen-bad}
+use Rattle.codes.specs.Answers.{refusalIn}
+use Rattle.codes.specs.Codes.{codeOf, formatOf}
 use Rattle.nibbles.proofs.Bytes.{bytes-below}
 use Rattle.nibbles.specs.Nibbles.{nibs, word}
 use Rattle.blockcalls.proofs.judged_writing.Statement.{statement}

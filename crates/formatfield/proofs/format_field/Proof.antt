@@ -6,9 +6,9 @@ use lib.ListN.{drop}
 use borrow.Author.Tests.{not-true, not-false}
 use borrow.Author.Needs.{needs}
 use Rattle.numbers.specs.declared.Refusal.the-variants.{Field15}
-use Rattle.formats.specs.Formats.{codeOf, formatOf}
-use Rattle.formats.specs.Answers.{refusalIn}
-use Rattle.formats.proofs.Laws.{chosen-of, chosen-bad}
+use Rattle.codes.specs.Codes.{codeOf, formatOf}
+use Rattle.codes.specs.Answers.{refusalIn}
+use Rattle.codes.proofs.Laws.{chosen-of, chosen-bad}
 use Rattle.fields.specs.Fields.{number}
 use Rattle.fields.proofs.Laws.{value-of-found, value-of-bad, number-refuses, number-read}
 use Rattle.formatfield.specs.FormatField.{formatField}

@@ -6,9 +6,9 @@ use borrow.Author.Needs.{needs}
 use Rattle.offsets.specs.declared.Comparison.the-variants.{Bad}
 use Rattle.offsets.specs.Offsets.{pinAndNatural}
 use Rattle.naturals.proofs.Laws.{table-judged}
-use Rattle.formats.proofs.Laws.{chosen-of, chosen-bad}
-use Rattle.formats.specs.Answers as formats
-use Rattle.formats.specs.Formats.{codeOf, formatOf}
+use Rattle.codes.proofs.Laws.{chosen-of, chosen-bad}
+use Rattle.codes.specs.Answers as formats
+use Rattle.codes.specs.Codes.{codeOf, formatOf}
 use Rattle.offsets.proofs.paired.Statement.{statement}
 use Rattle.offsets.proofs.paired.Tie as tie
 

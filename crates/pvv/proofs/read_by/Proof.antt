@@ -8,9 +8,9 @@ use Rattle.blocks.specs.Blocks.{readRow}
 use Rattle.pins.proofs.Laws.{field-row}
 use Rattle.pins.specs.Answers.{readingOf}
 use Rattle.pins.specs.declared.Reading.the-variants.{Bad}
-use Rattle.formats.proofs.Laws.{chosen-of, chosen-bad}
-use Rattle.formats.specs.Answers.{refusalIn}
-use Rattle.formats.specs.Formats.{codeOf, formatOf}
+use Rattle.codes.proofs.Laws.{chosen-of, chosen-bad}
+use Rattle.codes.specs.Answers.{refusalIn}
+use Rattle.codes.specs.Codes.{codeOf, formatOf}
 use Rattle.nibbles.specs.Nibbles.{row}
 use Rattle.pvv.proofs.read_by.Statement.{statement}
 use Rattle.pvv.proofs.read_by.Tie as tie

@@ -3,9 +3,9 @@
 use mathlib.Core.Path.{ap, sym, _∙_}
 use Rattle.numbers.specs.declared.Refusal.{Refusal}
 use Rattle.fields.proofs.Laws.{field-found, field-bad}
-use Rattle.weak.specs.Weak.{weakField}
-use Rattle.weak.specs.Answers.{refusalIn}
-use Rattle.weak.proofs.Laws.{weak-found, weak-bad}
+use Rattle.weakfield.specs.WeakField.{weakField}
+use Rattle.weakfield.specs.Answers.{refusalIn}
+use Rattle.weakfield.proofs.Laws.{weak-found, weak-bad}
 use Rattle.weaklist.specs.WeakList.{weak}
 use Rattle.weaklist.specs.declared.WeakStage.the-variants.{Bad}
 use borrow.Author.Needs.{needs}

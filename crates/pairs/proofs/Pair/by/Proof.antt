@@ -4,8 +4,8 @@ use mathlib.Core.Path.{ap, sym, _∙_}
 use borrow.Author.Tests.{not-true, not-false}
 use borrow.Author.Needs.{needs}
 use Rattle.pairs.specs.Pairs.{pairOf}
-use Rattle.formats.proofs.Laws.{chosen-of, chosen-bad, not-here}
-use Rattle.formats.specs.Formats.{codeOf, isKnown, formatOf}
+use Rattle.codes.proofs.Laws.{chosen-of, chosen-bad, not-here}
+use Rattle.codes.specs.Codes.{codeOf, isKnown, formatOf}
 use Rattle.pairs.proofs.Pair.by.Statement.{statement}
 use Rattle.pairs.proofs.Pair.by.Tie as tie
 

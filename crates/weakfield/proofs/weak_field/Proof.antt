@@ -1,12 +1,12 @@
--- `weak::weak_field` meets its contract.
+-- `weakfield::weak_field` meets its contract.
 -- Assumes nothing.
 use mathlib.Core.Path.{sym, ap, _∙_}
 use borrow.Author.Needs.{needs}
 use Rattle.weak.specs.declared.Weak.{Weak}
-use Rattle.weak.specs.declared.WeakRead.the-variants.{Got}
-use Rattle.weak.proofs.Laws.{field-absent, field-uncounted, counted-behind, field-counted}
-use Rattle.weak.proofs.weak_field.Statement.{statement}
-use Rattle.weak.proofs.weak_field.Tie as tie
+use Rattle.weakfield.specs.declared.WeakRead.the-variants.{Got}
+use Rattle.weakfield.proofs.Laws.{field-absent, field-uncounted, counted-behind, field-counted}
+use Rattle.weakfield.proofs.weak_field.Statement.{statement}
+use Rattle.weakfield.proofs.weak_field.Tie as tie
 
 mark-requires : tie.Need-mark-requires
 mark-requires c κs = search needs

@@ -6,13 +6,13 @@ use mathlib.Core.Path.{_≡_, refl}
 use mathlib.Core.Bool.{true, false≢true}
 use Rattle.numbers.specs.Numbers.{Outcome, done, refused}
 use Rattle.numbers.specs.declared.Refusal.{Refusal}
 use Rattle.formats.specs.declared.Format.{Format}
-use Rattle.formats.specs.declared.Chosen.the-variants.{Of, Bad}
+use Rattle.codes.specs.declared.Chosen.the-variants.{Of, Bad}
 use Rattle.numbers.specs.declared.Refusal.the-variants.{NotHere69}
-use Rattle.formats.specs.declared.Code.{Code}
-use Rattle.formats.specs.declared.Code.the-variants.{Built, Known, Unknown}
-use Rattle.formats.specs.Formats.{isKnown, formatOf}
-use Rattle.formats.specs.Answers.{chosenOf}
+use Rattle.codes.specs.declared.Code.{Code}
+use Rattle.codes.specs.declared.Code.the-variants.{Built, Known, Unknown}
+use Rattle.codes.specs.Codes.{isKnown, formatOf}
+use Rattle.codes.specs.Answers.{chosenOf}
 
 pub chosen-of : (o : Outcome Format) (f : Format) → Of f ≡ chosenOf o → o ≡ done f
 chosen-of (done g) f e = cc

@@ -1,4 +1,4 @@
--- `pins::class_end` meets its contract.
+-- `spelling::class_end` meets its contract.
 -- Assumes nothing.
 use Prim.Native.Nat.{ℕ, _+_, _≤_, _-_}
 use native.Mathlib.Nat.{add-zero}
@@ -10,8 +10,8 @@ use borrow.Author.Needs.{needs}
 use Rattle.nibbles.proofs.Runs.{lead-on, lead-stop, lead-over}
 use Rattle.alphabet.specs.Alphabet.{admits}
 use Rattle.nibbles.specs.Nibbles.{leading}
-use Rattle.pins.proofs.class_end.Statement.{statement}
-use Rattle.pins.proofs.class_end.Tie as tie
+use Rattle.spelling.proofs.class_end.Statement.{statement}
+use Rattle.spelling.proofs.class_end.Tie as tie
 
 abbrev Inv-loop : tie.InvT-loop
 Inv-loop class s i₀ i = (i ≤ length s) × (length (leading (admits class) s) ≡ i + length (leading (admits class) (drop i s)))

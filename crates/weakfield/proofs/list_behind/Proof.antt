@@ -1,4 +1,4 @@
--- `weak::list_behind` meets its contract.
+-- `weakfield::list_behind` meets its contract.
 -- Assumes nothing.
 use native.Mathlib.Nat.{mul-le-mul, add-zero}
 use native.Mathlib.Omega.{arith}
@@ -7,11 +7,11 @@ use borrow.Author.Needs.{needs}
 use Rattle.numbers.specs.declared.Refusal.the-variants.{Field15}
 use Rattle.fields.proofs.Laws.{number-read}
 use lib.ListN.{drop}
 use Rattle.weak.specs.declared.Weak.{Weak}
-use Rattle.weak.specs.declared.WeakRead.the-variants.{Got}
-use Rattle.weak.proofs.Laws.{listed-none, behind-unmeasured, behind-short, behind-whole}
-use Rattle.weak.proofs.list_behind.Statement.{statement}
-use Rattle.weak.proofs.list_behind.Tie as tie
+use Rattle.weakfield.specs.declared.WeakRead.the-variants.{Got}
+use Rattle.weakfield.proofs.Laws.{listed-none, behind-unmeasured, behind-short, behind-whole}
+use Rattle.weakfield.proofs.list_behind.Statement.{statement}
+use Rattle.weakfield.proofs.list_behind.Tie as tie
 
 none-at-requires : tie.Need-none-at-requires
 none-at-requires c κs = search needs

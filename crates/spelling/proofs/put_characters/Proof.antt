@@ -1,4 +1,4 @@
--- `pins::put_characters` meets its contract.
+-- `spelling::put_characters` meets its contract.
 -- Assumes nothing.
 use Prim.Native.Nat.{ℕ, _+_, _≤_, _-_}
 use native.Mathlib.Omega.{arith}
@@ -10,8 +10,8 @@ use Rattle.nibbles.proofs.Lists.{over-step, over-end, over-length, map-at}
 use Rattle.nibbles.proofs.Rows.{row-length, row-at-less, row-at-lt}
 use Rattle.alphabet.specs.Alphabet.{characters}
 use Rattle.nibbles.specs.Nibbles.{row}
-use Rattle.pins.proofs.put_characters.Statement.{statement}
-use Rattle.pins.proofs.put_characters.Tie as tie
+use Rattle.spelling.proofs.put_characters.Statement.{statement}
+use Rattle.spelling.proofs.put_characters.Tie as tie
 
 spelled : (n w : ℕ) → length (characters (row n w)) ≡ n
 spelled n w = length-map (row n w) (λ d. 0x30 + d) ∙ row-length n w

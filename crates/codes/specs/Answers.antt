@@ -2,9 +2,9 @@
 use Rattle.numbers.specs.Numbers.{Outcome, done, refused}
 use Rattle.numbers.specs.declared.Refusal.{Refusal}
 use Rattle.numbers.specs.declared.Refusal.the-variants.{NotHere69}
 use Rattle.formats.specs.declared.Format.{Format}
-use Rattle.formats.specs.declared.Chosen.{Chosen}
-use Rattle.formats.specs.declared.Chosen.the-variants.{Of, Bad}
+use Rattle.codes.specs.declared.Chosen.{Chosen}
+use Rattle.codes.specs.declared.Chosen.the-variants.{Of, Bad}
 
 -- a format, or the refusal
 abbrev pub chosenOf : Outcome Format → Chosen

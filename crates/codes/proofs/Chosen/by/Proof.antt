@@ -1,8 +1,8 @@
--- `formats::Chosen::by` meets its contract.
+-- `codes::Chosen::by` meets its contract.
 -- Assumes nothing.
 use borrow.Author.Needs.{needs}
-use Rattle.formats.proofs.Chosen.by.Statement.{statement}
-use Rattle.formats.proofs.Chosen.by.Tie as tie
+use Rattle.codes.proofs.Chosen.by.Statement.{statement}
+use Rattle.codes.proofs.Chosen.by.Tie as tie
 
 of-requires : tie.Need-of-requires
 of-requires c κs = search needs

@@ -1,9 +1,9 @@
--- `formats::Code::of` meets its contract.
+-- `codes::Code::of` meets its contract.
 -- Assumes nothing.
 use borrow.Author.Tests.{ne-eqb}
-use Rattle.formats.specs.Formats.{codeOf}
-use Rattle.formats.proofs.Code.of.Statement.{statement}
-use Rattle.formats.proofs.Code.of.Tie as tie
+use Rattle.codes.specs.Codes.{codeOf}
+use Rattle.codes.proofs.Code.of.Statement.{statement}
+use Rattle.codes.proofs.Code.of.Tie as tie
 
 returns : tie.Need-returns
 unfolding codeOf

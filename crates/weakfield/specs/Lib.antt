@@ -1,0 +1,2 @@
+pub mod WeakField
+pub mod Answers
