@@ -12,7 +12,7 @@ use lib.Dec.{eqb, lit<, lit≤}
 use lib.Bits.{xor-lt}
 use borrow.Author.Tests.{le-leb, eqb-true}
 use Rattle.nibbles.specs.Nibbles.{row, word, xors, within, every, leading}
-use Rattle.nibbles.proofs.Lists.{Below, below-weaken, and-left, and-right, map-at, below-drop}
+use Rattle.nibbles.proofs.Lists.{Below, below-weaken, and-left, and-right, map-at, below-drop, below-append}
 use Rattle.nibbles.proofs.Rows.{row-length, row-below, row-part, row-word, word-row, word-none, word-lt, word-append}
 use Rattle.nibbles.proofs.Runs.{leading-take, inside-high, every-leading, run-whole, run-broken, below-every}
 use Rattle.numbers.specs.Numbers.{done, refused, andThen}
@@ -165,10 +165,6 @@ unfolding readRow
 read-clear f with ns clear e = ap (λ (c : List ℕ). andThen (counted (leadOf f) c) (λ n. andThen (pinLength n) (contents f c))) (sym e)
 
 -- ---- writing, to the clear row
-
-below-append : (m : ℕ) (xs ys : List ℕ) → Below m xs → Below m ys → Below m (xs ++ ys)
-below-append m [] ys b c = c
-below-append m (x ∷ xs) ys b c = (b .0, below-append m xs ys (b .1) c)
 
 -- every control is a nibble
 leads-below : (f : Format) (n : ℕ) → n < 16 → Below 16 (leads (leadOf f) n)

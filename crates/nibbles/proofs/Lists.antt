@@ -41,6 +41,10 @@ pub below-weaken : (m n : ℕ) (xs : List ℕ) → m ≤ n → Below m xs → Be
 below-weaken m n [] h b = tt
 below-weaken m n (x ∷ xs) h b = (let s = b .0 in omega arith, below-weaken m n xs h (b .1))
 
+pub below-append : (m : ℕ) (xs ys : List ℕ) → Below m xs → Below m ys → Below m (xs ++ ys)
+below-append m [] ys b c = c
+below-append m (x ∷ xs) ys b c = (b .0, below-append m xs ys (b .1) c)
+
 pub map-at : (f : ℕ → ℕ) (xs : List ℕ) (i d e : ℕ) → i < length xs → getD (map f xs) i d ≡ f (getD xs i e)
 map-at f [] i d e h = absurd (not-suc-le-zero h)
 map-at f (x ∷ xs) zero d e h = refl

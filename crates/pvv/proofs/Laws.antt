@@ -10,7 +10,7 @@ use lib.Seq.{length-take-le}
 use lib.Dec.{leb, eqb, lit≤}
 use borrow.Author.Tests.{leb-true, le-leb, lt-leb, eqb-true}
 use Rattle.nibbles.specs.Nibbles.{row, word, nibs, packs, same}
-use Rattle.nibbles.proofs.Lists.{Below, below-drop, below-take, below-weaken, map-below, and-left}
+use Rattle.nibbles.proofs.Lists.{Below, below-drop, below-take, below-weaken, map-below, and-left, below-append}
 use Rattle.nibbles.proofs.Rows.{row-word, word-under}
 use Rattle.nibbles.proofs.Bytes.{nibs-length}
 use Rattle.alphabet.specs.Alphabet.{allOf, valueOf, characters}
@@ -29,7 +29,6 @@ use Rattle.pins.proofs.Laws.{through, then-alike, Pinned, sized-done, account-d
 use Rattle.answers.proofs.Laws.{Blocky, Sixteen}
 use Rattle.blocks.proofs.Laws.{read-pinned}
 use Rattle.pvvdigits.specs.PvvDigits.{pvvOf}
-use Rattle.pvvdigits.proofs.Laws.{below-append}
 use Rattle.pvvinput.specs.PvvInput.{inputRow, keyIndex}
 use Rattle.pvvinput.proofs.Laws.{index-small}
 use Rattle.pvv.specs.Pvv.{presented, pvvGiven, pinRead, pvvInput, pvvMade, pvvVerdict}

@@ -12,7 +12,7 @@ use lib.Seq.{drop-cons, take-all, take-at, length-take-le}
 use lib.Dec.{leb, lit≤}
 use borrow.Author.Tests.{leb-true, leb-false}
 use Rattle.nibbles.specs.Nibbles.{row, word, within, same}
-use Rattle.nibbles.proofs.Lists.{Below, below-take, same-refl, same-false}
+use Rattle.nibbles.proofs.Lists.{Below, below-take, same-refl, same-false, below-append}
 use Rattle.nibbles.proofs.Rows.{row-length, row-below, row-word, word-row, word-lt, word-append}
 use Rattle.nibbles.proofs.Runs.{inside, under, over}
 use Rattle.alphabet.specs.Alphabet.{characters}
@@ -28,10 +28,6 @@ pub take-again : (k : ℕ) (xs ys : List ℕ) → take k (take k xs ++ ys) ≡ t
 take-again zero xs ys = refl
 take-again (suc k) [] ys = refl
 take-again (suc k) (x ∷ xs) ys = ap (λ (l : List ℕ). x ∷ l) (take-again k xs ys)
-
-pub below-append : (m : ℕ) (xs ys : List ℕ) → Below m xs → Below m ys → Below m (xs ++ ys)
-below-append m [] ys b c = c
-below-append m (x ∷ xs) ys b c = (b .0, below-append m xs ys (b .1) c)
 
 -- ---- those from low to high, less a number
 

@@ -11,7 +11,7 @@ use lib.Seq.{slice, take-all, length-take-le}
 use lib.Dec.{leb, eqb, lit≤}
 use borrow.Author.Tests.{leb-true, eqb-true, eqb-false, eq-eqb, ne-eqb}
 use Rattle.nibbles.specs.Nibbles.{row, word, packs}
-use Rattle.nibbles.proofs.Lists.{Below, and-left, and-right, map-below, below-drop}
+use Rattle.nibbles.proofs.Lists.{Below, and-left, and-right, map-below, below-drop, below-append}
 use Rattle.nibbles.proofs.Rows.{row-length, row-below, row-take, word-lt, word-under, word-append}
 use Rattle.alphabet.specs.Alphabet.{allOf, begins, valueOf}
 use Rattle.alphabet.proofs.Laws.{value-below}
@@ -27,10 +27,6 @@ use Rattle.answers.proofs.Laws.{Sixteen, sixteen-nibs}
 use Rattle.validation.specs.Validation.{letterP, letterN, hexEnd, isTemplate, isWhole, shapeOf, shapeWidth, formed, isValidation, replaced, shaped, validationRow, validationBlock}
 use Rattle.validation.specs.declared.Shape.{Shape}
 use Rattle.validation.specs.declared.Shape.the-variants.{Template, Whole, Neither}
-
-below-append : (m : ℕ) (xs ys : List ℕ) → Below m xs → Below m ys → Below m (xs ++ ys)
-below-append m [] ys b c = c
-below-append m (x ∷ xs) ys b c = (b .0, below-append m xs ys (b .1) c)
 
 -- a place where something stands
 here : (cs : List ℕ) (p n : ℕ) → getD cs p 0 ≡ suc n → p < length cs
