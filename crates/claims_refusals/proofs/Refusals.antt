@@ -1,0 +1,102 @@
+-- The refused commands, computed.
+-- Assumes nothing.
+use mathlib.Core.Path.{refl}
+use Rattle.nibbles.specs.Nibbles.{nibs, packs, xors, every, leading, same}
+use Rattle.alphabet.specs.Alphabet.{allOf, begins, valueOf}
+use Rattle.codes.specs.Codes.{codeOf}
+use Rattle.blocks.specs.Blocks.{contents, readRow}
+use Rattle.validation.specs.Validation.{shapeOf, validationRow}
+use Rattle.ibm3624.specs.Ibm3624.{differences}
+use Rattle.offsets.specs.Offsets.{pinWithNatural}
+use Rattle.frame.specs.Frame.{isFramed, opening}
+use Rattle.fields.specs.Fields.{run, number, trailer}
+use Rattle.lmk.specs.Lmk.{lmkField}
+use Rattle.uses.specs.Uses.{beginsOne, isOne, permits}
+use Rattle.keylengths.specs.KeyLengths.{blockLength}
+use Rattle.keyblocks.specs.KeyBlocks.{keyBlock}
+use Rattle.keys.specs.Keys.{keyType, hexKey, lettered, key}
+use Rattle.weak.specs.Weak.{entries, isOn}
+use Rattle.weakfield.specs.WeakField.{listed, weakField}
+use Rattle.keybox.specs.KeyBox.{slices, parities, boxed}
+use Rattle.formatfield.specs.FormatField.{formatField}
+use Rattle.validationfield.specs.ValidationField.{validationField}
+use Rattle.keyfields.specs.KeyFields.{keys}
+use Rattle.sealed.specs.Sealed.{sealed}
+use Rattle.offsetting.specs.Offsetting.{offsetting}
+use Rattle.weaklist.specs.WeakList.{weak}
+use Rattle.endings.specs.Endings.{end}
+use Rattle.bkfields.specs.BkFields.{bkFields}
+use Rattle.bkfinish.specs.BkFinish.{bkFinish}
+use Rattle.bk.specs.Bk.{bkAsk, bkAnswer}
+use Rattle.commands.specs.Commands.{askBy, answerBy, asking, answered}
+use Rattle.claims_refusals.specs.Refusals.{RefusedCommands}
+
+pub refused-commands : RefusedCommands
+unfolding nibs packs xors every leading same allOf begins valueOf codeOf isFramed opening run number trailer lmkField beginsOne isOne permits blockLength keyBlock keyType hexKey lettered key listed
+    weakField entries isOn keys formatField sealed shapeOf validationField validationRow offsetting weak end slices parities boxed bkFields contents readRow pinWithNatural differences bkFinish bkAsk
+    bkAnswer askBy answerBy asking answered
+refused-commands = (
+  refl,
+  refl,
+  refl,
+  refl,
+  refl,
+  refl,
+  refl,
+  refl,
+  refl,
+  refl,
+  refl,
+  refl,
+  refl,
+  refl,
+  refl,
+  refl,
+  refl,
+  refl,
+  refl,
+  refl,
+  refl,
+  refl,
+  refl,
+  refl,
+  refl,
+  refl,
+  refl,
+  refl,
+  refl,
+  refl,
+  refl,
+  refl,
+  refl,
+  refl,
+  refl,
+  refl,
+  refl,
+  refl,
+  refl,
+  refl,
+  refl,
+  refl,
+  refl,
+  refl,
+  refl,
+  refl,
+  refl,
+  refl,
+  refl,
+  refl,
+  refl,
+  refl,
+  refl,
+  refl,
+  refl,
+  refl,
+  refl,
+  refl,
+  refl,
+  refl,
+  refl,
+  refl,
+  refl,
+)
