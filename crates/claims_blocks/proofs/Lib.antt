@@ -9,3 +9,4 @@ pub mod Promises
 pub mod Numbers
 pub mod Codes
 pub mod Figures
+pub mod Rooms

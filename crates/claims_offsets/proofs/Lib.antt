@@ -7,3 +7,4 @@ pub mod Counts
 pub mod Numbers
 pub mod Cores
 pub mod Counted
+pub mod Rooms

@@ -3,3 +3,4 @@ pub mod Claims
 pub mod Numbers
 pub mod Cores
 pub mod Counted
+pub mod Rooms
