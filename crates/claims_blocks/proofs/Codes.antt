@@ -11,7 +11,8 @@ use borrow.Author.Tests.{le-leb, eq-eqb, eqb-true}
 use Rattle.nibbles.specs.Nibbles.{nibs, packs, within, every}
 use Rattle.numbers.specs.Numbers.{Outcome, done, refused, andThen, unless, numberOf}
 use Rattle.numbers.specs.Promise.{quietly}
-use Rattle.numbers.specs.declared.Refusal.the-variants.{Block20, Length24, NotHere69}
+use Rattle.numbers.specs.declared.Refusal.{Refusal}
+use Rattle.numbers.specs.declared.Refusal.the-variants.{Block20, Format23, Length24, NotHere69}
 use Rattle.codes.specs.Codes.{codeOf, formatOf, knownCode}
 use Rattle.codes.specs.declared.Code.{Code}
 use Rattle.codes.specs.declared.Code.the-variants.{Built, Known, Unknown}
@@ -24,7 +25,7 @@ use Rattle.restriction.specs.Restriction.{restrictedPair, permitted}
 use Rattle.pairs.specs.Pairs.{pairOf}
 use Rattle.translation.specs.Translation.{translateBlock}
 use Rattle.claims_blocks.specs.Promises.{listed}
-use Rattle.claims_blocks.specs.Codes.{knownCodes, unbuiltCodes, restrictedPairs, listedPair, ofContents, leftBy, leftByPair, OneOfThem, CodesExactly, RestrictedExactly}
+use Rattle.claims_blocks.specs.Codes.{knownCodes, unbuiltCodes, restrictedPairs, listedPair, ofContents, leftTo, leftBy, leftByPair, OneOfThem, CodesExactly, RestrictedExactly}
 use Rattle.claims_blocks.proofs.Judged.{Only, Fault, done-only, test-only, then-only}
 use Rattle.claims_blocks.proofs.Trips.{read-faults}
 use Rattle.claims_blocks.proofs.Calls.{was-read, translation-keeps}
@@ -120,13 +121,18 @@ of-contents (refused q) c = by (c q refl)
     by (inl e) = rw e
     by (inr e) = rw e
 
-left : (code : ℕ) (next : Format → Outcome (List ℕ)) → ((f : Format) → Only Fault (next f)) → OneOfThem (quietly (andThen (formatOf (codeOf code)) next)) (leftBy code)
-left code next faults = by (codeOf code) (stands code)
+-- whatever the call is: a format that is refused ends it
+pub left-to : (behind : List ℕ) (call : Outcome Format → Outcome (List ℕ)) → ((q : Refusal) → call (refused q) ≡ refused q)
+    → ((f : Format) → OneOfThem (quietly (call (done f))) behind) → (code : ℕ) → OneOfThem (quietly (call (formatOf (codeOf code)))) (leftTo behind code)
+left-to behind call ends of-them code = by (codeOf code) (stands code)
   where
-    by : (k : Code) → Stands code k → OneOfThem (quietly (andThen (formatOf k) next)) (leftBy code)
-    by (Built f) e = rw (e, among-nine f, not-of-three f) (of-contents (next f) (faults f))
-    by Known e = rw (e .0, e .1) refl
-    by Unknown e = rw e refl
+    by : (k : Code) → Stands code k → OneOfThem (quietly (call (formatOf k))) (leftTo behind code)
+    by (Built f) e = rw (e, among-nine f, not-of-three f) (of-them f)
+    by Known e = rw (e .0, e .1, ends NotHere69) refl
+    by Unknown e = rw (e, ends Format23) refl
+
+left : (code : ℕ) (next : Format → Outcome (List ℕ)) → ((f : Format) → Only Fault (next f)) → OneOfThem (quietly (andThen (formatOf (codeOf code)) next)) (leftBy code)
+left code next faults = left-to ofContents (λ o. andThen o next) (λ _. refl) (λ f. of-contents (next f) (faults f)) code
 
 -- two formats: unrestricted, all pairs; restricted, the seven
 module _ (next : Format × Format → Outcome (List ℕ)) (faults : (pair : Format × Format) → Only Fault (next pair)) where

@@ -34,9 +34,13 @@ listedPair from to (pair ∷ pairs) = (eqb from (pair .0) && eqb to (pair .1)) |
 abbrev pub ofContents : List ℕ
 ofContents = 0 ∷ 20 ∷ 24 ∷ []
 
--- the numbers that a code leaves: 23 outside the nine, 69 for the three, and for every other only those of the contents
+-- the numbers that a code leaves: 23 outside the nine, 69 for the three, and for every other only those that are judged behind it
+abbrev pub leftTo : List ℕ → ℕ → List ℕ
+leftTo behind code = cond (listed code knownCodes) (cond (listed code unbuiltCodes) (69 ∷ []) behind) (23 ∷ [])
+
+-- behind it only the contents
 abbrev pub leftBy : ℕ → List ℕ
-leftBy code = cond (listed code knownCodes) (cond (listed code unbuiltCodes) (69 ∷ []) ofContents) (23 ∷ [])
+leftBy code = leftTo ofContents code
 
 -- a pair of codes that is not taken: one of the three is in it or, restricted, it is none of the seven
 abbrev pub notTaken : Bool → ℕ → ℕ → Bool

@@ -8,3 +8,4 @@ pub mod Numbers
 pub mod Cores
 pub mod Counted
 pub mod Rooms
+pub mod Order

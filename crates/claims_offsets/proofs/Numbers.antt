@@ -103,7 +103,7 @@ made-never-81 = (
 -- ---- from refusals and lengths to numbers and counts
 
 -- a refusal with one of these numbers
-abbrev In : List ℕ → Refusal → Type 0
+abbrev pub In : List ℕ → Refusal → Type 0
 In numbers q = listed (numberOf q) numbers ≡ true
 
 -- what is refused for these numbers only, and done with right counts only

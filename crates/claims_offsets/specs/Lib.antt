@@ -4,3 +4,4 @@ pub mod Numbers
 pub mod Cores
 pub mod Counted
 pub mod Rooms
+pub mod Order
