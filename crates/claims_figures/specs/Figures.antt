@@ -12,7 +12,7 @@ use Rattle.naturals.specs.Naturals.{naturalPin}
 use Rattle.offsets.specs.Offsets.{offsetMade, offsetOfDigits}
 use Rattle.pvv.specs.Pvv.{pvvInput, pvvMade}
 use Rattle.claims_blocks.specs.Figures.{usualAccount, usualPin, longPin, blockP1, blockP6}
-use Rattle.claims_offsets.specs.Figures.{blockP2, tableP9, beginningP9, validationP12}
+use Rattle.claims_offsets.specs.Figures.{blockP2, tableP9, beginningP9, encipheredP9, validationP12}
 
 -- a figure: what the calls of its case say, and what the bench prints
 pub record Figure : Type 0 where
@@ -41,9 +41,12 @@ written code pin block = record {
   said = says 0 block ∷ says 0 pin ∷ [];
 }
 
--- a block of format 34 that is not read, and its number
+-- a block of format 34 that is not read, and its number; the offset call gives it too, under a check length that is 81 for most PINs
 abbrev pub unread : List ℕ → ℕ → Figure
-unread block number = gives (readBlock 34 block usualAccount 12) number []
+unread block number = record {
+  given = quietly (readBlock 34 block usualAccount 12) ∷ quietly (offsetMade false 34 12 block usualAccount tableP9 encipheredP9 12) ∷ [];
+  said = says number [] ∷ says number [] ∷ [];
+}
 
 -- the offset of the PIN of P2 against P9, for a check length
 abbrev pub offsetP9 : List ℕ → ℕ → Outcome (List ℕ)
