@@ -25,7 +25,7 @@ use Rattle.claims_blocks.specs.Promises.{zeros, Only00, Apart, NotRefusi
 
 -- what is done is answered 00
 pub only-00 : {o : Outcome (List ℕ)} {xs : List ℕ} (before : List ℕ) → o ≡ done xs → Only00 (quietly o) before
-only-00 before e r after d = d .number ∙ ap (λ (x : Outcome (List ℕ)). quietly x .number) e
+only-00 {xs = xs} before e r after d = d .number ∙ ap (λ (x : Outcome (List ℕ)). quietly x .number) e
 
 -- and begins the buffer
 begins : {o : Outcome (List ℕ)} {x : ℕ} {xs : List ℕ} (before after : List ℕ) (r : Reply) → o ≡ done (x ∷ xs) → Does (quietly o) before r after → getD after 0 0 ≡ x
