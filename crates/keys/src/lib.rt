@@ -22,29 +22,30 @@ const TYPE_002: [u8; 3] = *b"002";
 
 const TYPE_FFF: [u8; 3] = *b"FFF";
 
-// The keys that a field admits: 32 hex characters without a letter, U and 32, T and 48, S and a key block.
+// The keys that a field admits: S and a key block, 32 hex characters without a letter, U and 32, T and 48. The block
+// comes first: so no four bytes in a row are alike in a `Typed`, and the compiler keeps the letters in a register.
 pub struct Letters {
+    pub block: bool,
     pub bare: bool,
     pub double: bool,
     pub triple: bool,
-    pub block: bool,
 }
 
 impl Letters {
     // "Types 001 and 002 want U + 32 or T + 48 hex characters in both"
     pub const U_OR_T: Letters = Letters {
+        block: false,
         bare: false,
         double: true,
         triple: true,
-        block: false,
     };
 
     // "FFF wants S in both"
     pub const S: Letters = Letters {
+        block: true,
         bare: false,
         double: false,
         triple: false,
-        block: true,
     };
 
     // Whether a character begins a key without a letter that the field admits.
