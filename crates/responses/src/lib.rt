@@ -73,7 +73,8 @@ pub fn ask(asked: Asked, out: &mut [u8]) -> Reply
         let refusal = fault.refusal;
         return Reply::refused(refusal);
     };
-    answers::answer(Row::Held(row), out)
+    nibbles::put_bytes(row, out);
+    Reply::done(8)
 }
 
 // Writes a payload over the beginning of the output, and tells how many bytes it has: at most twelve.

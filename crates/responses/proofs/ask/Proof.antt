@@ -1,9 +1,13 @@
 -- `responses::ask` meets its contract.
 -- Assumes nothing.
+use Prim.Native.Nat.{ℕ}
+use mathlib.Core.List.{_++_}
 use mathlib.Core.Path.{sym, ap, _∙_, subst}
-use lib.ListN.{length}
+use lib.ListN.{length, drop}
+use Rattle.nibbles.specs.Nibbles.{row, packs}
 use Rattle.numbers.specs.Numbers.{numberOf}
-use Rattle.numbers.proofs.Laws.{does-refuse, does-as}
+use Rattle.numbers.proofs.Laws.{does-refuse, does-write}
+use Rattle.answers.proofs.Laws.{sixteen-bytes, row-sixteen}
 use Rattle.fields.specs.Fields.{heard}
 use Rattle.fields.specs.declared.Fault.{Fault}
 use Rattle.responses.specs.Answers.{askFault, askedBytes, RoomToAsk}
@@ -33,18 +37,25 @@ returns c =
     does-refuse (heard (askedBytes (a .asked))) _ (a .out .now) _ (ap (λ (x : Asked). heard (askedBytes x)) e)
     (c .refused .ensures .0 ∙ ap (λ (f : Fault). numberOf (f .refusal)) fault) (c .refused .ensures .1)
 
-answer-requires : tie.Need-answer-requires
-answer-requires c κs =
+put-bytes-requires : tie.Need-put-bytes-requires
+put-bytes-requires c κs =
     let held = c .before .before in
     subst (λ (x : Asked). RoomToAsk x (length (held .before .before .before .args .out .now))) (held .asked .given .1) (held .before .before .before .pre)
+
+done-requires : tie.Need-done-requires
+done-requires c κs = search needs
 
 same-length : tie.Need-same-length
 same-length c = search needs
 
 returns-2 : tie.Need-returns-2
 returns-2 c =
-    let held = c .before .before .before .before .before in
-    does-as _ _ (ap (λ (x : Asked). heard (askedBytes x)) (sym (held .asked .given .1))) (c .before .before .answer .ensures)
+    let held = c .before .before .before .before .before .before in
+    let a = held .before .before .before .args in
+    let w = held .asked .given .0 .0 in
+    let eight = sixteen-bytes (row 16 w) (row-sixteen w) in
+    does-write (heard (askedBytes (a .asked))) (packs (row 16 w)) (a .out .now) _ (c .done .result) (ap (λ (x : Asked). heard (askedBytes x)) (held .asked .given .1)) (c .done .ensures .0)
+    (c .done .ensures .1 ∙ sym eight) (c .before .before .before .put-bytes .ensures ∙ ap (λ (n : ℕ). packs (row 16 w) ++ drop n (a .out .now)) (sym eight))
 
 pub ask-spec : {M : Type 1} → statement M
 ask-spec =
@@ -55,6 +66,7 @@ ask-spec =
     fault-requires
     refused-requires
     returns
-    answer-requires
+    put-bytes-requires
+    done-requires
     same-length
     returns-2)
