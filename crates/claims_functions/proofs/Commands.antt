@@ -21,6 +21,7 @@ frame-once = record {
   Code·at = λ κs a r r′ ends ends′. settled;
   is-framed = λ κs a r r′ ends ends′. settled;
   put-run = λ κs a r r′ ends ends′. left 1;
+  put-code = λ κs a r r′ ends ends′. left 3;
   «open» = λ κs a r r′ ends ends′. left 3;
 }
 

@@ -43,6 +43,7 @@ pub record FrameSettled : Type 0 where
   pub Code·at : Settled Frame.Code.at.ended Frame.Code.at.Reads.Learnt
   pub is-framed : Settled Frame.is_framed.ended Frame.is_framed.Reads.Learnt
   pub put-run : Settled Frame.put_run.ended Frame.put_run.Reads.Learnt
+  pub put-code : Settled Frame.put_code.ended Frame.put_code.Reads.Learnt
   pub «open» : Settled Frame.«open».ended Frame.«open».Reads.Learnt
 
 -- every public function of fields

@@ -1,9 +1,9 @@
 // The frame of a command, and the bytes that a response opens with.
 ghost use mathlib.Core.Path.{_≡_};
-ghost use mathlib.Core.List.{_++_};
+ghost use mathlib.Core.List.{_∷_, _++_};
 ghost use Prim.Native.Nat.{_+_, _≤_};
-ghost use lib.ListN.{length, drop};
-ghost use Rattle.frame.specs.Frame.{isFramed, codeOf, opening};
+ghost use lib.ListN.{length, getD, drop};
+ghost use Rattle.frame.specs.Frame.{isFramed, codeOf, raised, inTwoDigits, opening};
 use alphabet::Class;
 use settings::Settings;
 
@@ -58,10 +58,10 @@ pub fn put_run(run: &[u8], out: &mut [u8])
     }
 }
 
-// Opens a response: header, response code and two-digit number.
-pub fn open(header: usize, command: &[u8], number: u32, out: &mut [u8])
-    requires { ⌜ (header + 2 ≤ length (now command)) × (header + 4 ≤ length (now out)) ⌝ }
-    ensures { λ _. ⌜ now (out .exit) ≡ opening header (now (command .entry)) number ++ drop (header + 4) (now (out .entry)) ⌝ }
+// Writes response code and two-digit number over the beginning of the output.
+pub fn put_code(header: usize, command: &[u8], number: u32, out: &mut [u8])
+    requires { ⌜ (header + 2 ≤ length (now command)) × (4 ≤ length (now out)) ⌝ }
+    ensures { λ _. ⌜ now (out .exit) ≡ (getD (now (command .entry)) header 0 ∷ raised (getD (now (command .entry)) (header + 1) 0) ∷ inTwoDigits number) ++ drop 4 (now (out .entry)) ⌝ }
 {
     let next = header + 1;
     let tens = number / 10 % 10;
@@ -72,6 +72,14 @@ pub fn open(header: usize, command: &[u8], number: u32, out: &mut [u8])
         (0x30 + tens) as u8,
         (0x30 + ones) as u8,
     ];
+    put_run(&code, out);
+}
+
+// Opens a response: header, response code and two-digit number.
+pub fn open(header: usize, command: &[u8], number: u32, out: &mut [u8])
+    requires { ⌜ (header + 2 ≤ length (now command)) × (header + 4 ≤ length (now out)) ⌝ }
+    ensures { λ _. ⌜ now (out .exit) ≡ opening header (now (command .entry)) number ++ drop (header + 4) (now (out .entry)) ⌝ }
+{
     put_run(&command[..header], out);
-    put_run(&code, &mut out[header..]);
+    put_code(header, command, number, &mut out[header..]);
 }

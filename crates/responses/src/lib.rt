@@ -117,8 +117,10 @@ pub fn respond(header: usize, command: &[u8], answered: Answered, out: &mut [u8]
     let Answered::With(payload, mark) = answered else {
         let fault = answered.fault();
         let refusal = fault.refusal;
+        frame::put_run(&command[..header], out);
+        // Not before the header: what stands between keeps the compiler from a jump for each number.
         let number = refusal.number();
-        frame::open(header, command, number, out);
+        frame::put_code(header, command, number, &mut out[header..]);
         return Reply {
             number,
             written: header as u32 + 4,

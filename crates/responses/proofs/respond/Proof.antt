@@ -2,11 +2,13 @@
 -- Assumes nothing.
 use Prim.Native.Nat.{ℕ, _+_}
 use native.Mathlib.Omega.{arith}
-use mathlib.Core.List.{_++_}
+use mathlib.Core.List.{_∷_, _++_}
 use mathlib.Core.Path.{refl, ap, sym, _∙_, subst}
-use lib.ListN.{drop}
+use lib.ListN.{getD, take, drop}
+use lib.Seq.{length-take-le}
 use Rattle.numbers.specs.Numbers.{numberOf}
-use Rattle.frame.specs.Frame.{opening}
+use Rattle.frame.specs.Frame.{opening, raised, inTwoDigits}
+use Rattle.frame.proofs.Laws.{over-lent}
 use Rattle.fields.specs.Fields.{heard}
 use Rattle.fields.specs.declared.Fault.{Fault}
 use Rattle.responses.specs.Answers.{answerFault, answeredText, Writable}
@@ -25,32 +27,57 @@ enum-told c = search needs
 fault-requires : tie.Need-fault-requires
 fault-requires c κs = search needs
 
+slice-aggregate-put-run : tie.Need-slice-aggregate-put-run
+slice-aggregate-put-run c =
+    let a = c .before .before .before .before .before .before .args in
+    sym (length-take-le (a .header) (a .command .now) (omega arith))
+
+put-run-requires : tie.Need-put-run-requires
+put-run-requires c κs =
+    let a = c .before .before .before .before .before .before .before .args in
+    rw (length-take-le (a .header) (a .command .now) (omega arith)) (omega arith)
+
 number-requires : tie.Need-number-requires
 number-requires c κs = search needs
 
-open-requires : tie.Need-open-requires
-open-requires c κs = search needs
+sub-put-code : tie.Need-sub-put-code
+sub-put-code c = search needs
 
-cast-t13 : tie.Need-cast-t13
-cast-t13 c = search needs
+part-put-code-start : tie.Need-part-put-code-start
+part-put-code-start c = search needs
 
-add-t14 : tie.Need-add-t14
-add-t14 c = search needs
+part-put-code-end : tie.Need-part-put-code-end
+part-put-code-end c = search needs
+
+put-code-requires : tie.Need-put-code-requires
+put-code-requires c κs = search needs
+
+cast-t19 : tie.Need-cast-t19
+cast-t19 c = search needs
+
+add-t20 : tie.Need-add-t20
+add-t20 c = search needs
 
 same-length : tie.Need-same-length
 same-length c = search needs
 
 returns : tie.Need-returns
+unfolding opening
 returns c =
     let numbered = c .before .before .before .before in
-    let told = numbered .before .before in
+    let headed = numbered .before .before .before in
+    let told = headed .before .before .before .before in
     let a = told .before .before .before .before .args in
     let s = a .command .now in
     let e = told .enum-told .given .1 in
-    let fault = numbered .before .fault .ensures ∙ ap answerFault e in
+    let fault = headed .before .before .before .fault .ensures ∙ ap answerFault e in
     let number = numbered .number .ensures ∙ ap (λ (f : Fault). numberOf (f .refusal)) fault in
+    let header = take (a .header) s in
+    let long = length-take-le (a .header) s (omega arith) in
+    let answer = getD s (a .header) 0 ∷ raised (getD s (a .header + 1) 0) ∷ inTwoDigits (numbered .number .result) in
+    let begun = headed .put-run .ensures ∙ ap (λ (k : ℕ). header ++ drop k (a .out .now)) long in
     does-respond (a .header) s (a .out .now) _ (heard (answeredText s (a .answered))) _ _ (omega arith) (ap (λ (x : Answered). heard (answeredText s x)) e) number refl
-    (c .before .before .«open» .ensures ∙ ap (λ (k : ℕ). opening (a .header) s k ++ drop (a .header + 4) (a .out .now)) number)
+    (over-lent header answer (a .out .now) _ (a .header) 4 long begun _ (c .before .before .put-code .ensures) ∙ ap (λ (k : ℕ). opening (a .header) s k ++ drop (a .header + 4) (a .out .now)) number)
 
 respond-with-requires : tie.Need-respond-with-requires
 respond-with-requires c κs =
@@ -75,10 +102,15 @@ respond-spec =
     enum-known-answered
     enum-told
     fault-requires
+    slice-aggregate-put-run
+    put-run-requires
     number-requires
-    open-requires
-    cast-t13
-    add-t14
+    sub-put-code
+    part-put-code-start
+    part-put-code-end
+    put-code-requires
+    cast-t19
+    add-t20
     same-length
     returns
     respond-with-requires
