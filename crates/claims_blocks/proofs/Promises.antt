@@ -23,7 +23,7 @@ use Rattle.claims_blocks.specs.Promises.{zeros, Only00, Apart, NotRefusi
 
 -- ---- refusing, and a fixed answer
 
--- what is done is answered 00
+-- what is done is answered 00. `xs` is named for the log of an edit that is refused here
 pub only-00 : {o : Outcome (List ℕ)} {xs : List ℕ} (before : List ℕ) → o ≡ done xs → Only00 (quietly o) before
 only-00 {xs = xs} before e r after d = d .number ∙ ap (λ (x : Outcome (List ℕ)). quietly x .number) e
 

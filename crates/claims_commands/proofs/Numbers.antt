@@ -2,7 +2,7 @@
 -- Assumes nothing.
 use Prim.Native.Nat.{ℕ, _+_, _-_, _≤_}
 use native.Mathlib.Omega.{arith}
-use mathlib.Core.Path.{_≡_, refl, sym, ap, ap₂, _∙_, subst}
+use mathlib.Core.Path.{_≡_, refl, sym, ap, _∙_, subst}
 use mathlib.Core.Logic.{inl, inr}
 use mathlib.Core.List.{List, [], _∷_}
 use mathlib.Core.Bool.{Bool, true, false, not, _||_, false≢true}
@@ -24,14 +24,13 @@ use Rattle.answers.proofs.Laws.{sixteen-bytes}
 use Rattle.validation.specs.Validation.{validationRow}
 use Rattle.naturals.specs.Naturals.{naturalOf}
 use Rattle.ibm3624.specs.Ibm3624.{covers, offsetOf}
-use Rattle.offsettexts.specs.OffsetTexts.{offsetText}
 use Rattle.offsettexts.proofs.Laws.{text-length}
 use Rattle.offsets.specs.Offsets.{pinWithNatural, offsetFor}
 use Rattle.frame.specs.Frame.{isFramed, codeOf, opening}
 use Rattle.frame.specs.declared.Code.{Code}
 use Rattle.frame.specs.declared.Code.the-variants.{Bk, Other}
 use Rattle.frame.proofs.Laws.{framed-bounds, opening-length}
-use Rattle.fields.specs.Fields.{Ruling, ruled, pointing, unpointed, heard}
+use Rattle.fields.specs.Fields.{ruled, pointing, unpointed, heard}
 use Rattle.fields.proofs.Rulings.{heard-done}
 use Rattle.weak.specs.Weak.{isOn, weakPins}
 use Rattle.keybox.specs.KeyBox.{slices, parities, boxed}

@@ -9,9 +9,8 @@ use lib.Dec.{eqb}
 use borrow.Author.Tests.{le-leb, lt-leb, eq-eqb}
 use Rattle.nibbles.specs.Nibbles.{nibs, packs, same}
 use Rattle.alphabet.specs.Alphabet.{valueOf}
-use Rattle.numbers.specs.Numbers.{Judged, Outcome, done, refused, andThen, unless}
+use Rattle.numbers.specs.Numbers.{Outcome, done, refused, andThen, unless}
 use Rattle.numbers.specs.Promise.{quietly}
-use Rattle.numbers.specs.declared.Refusal.{Refusal}
 use Rattle.numbers.specs.declared.Refusal.the-variants.{Unverified01, Field15, Check81}
 use Rattle.codes.specs.Codes.{codeOf, formatOf}
 use Rattle.formats.specs.declared.Format.{Format}

@@ -30,7 +30,7 @@ ofVerdict = 0 ∷ 1 ∷ 20 ∷ 24 ∷ 25 ∷ 81 ∷ []
 abbrev pub ofPvvVerdict : List ℕ
 ofPvvVerdict = 0 ∷ 1 ∷ 20 ∷ 24 ∷ []
 
--- a call, over the code that it takes: it answers what the code leaves to what is judged behind it
+-- a call, over the code that it takes: whatever the code, the number is one that the code leaves
 abbrev pub TakesCode : List ℕ → (ℕ → Outcome (List ℕ)) → Type 0
 TakesCode behind call = (code : ℕ) → OneOfThem (quietly (call code)) (leftTo behind code)
 

@@ -1,5 +1,5 @@
--- Refused commands, as one table: what the asking and the answering call say to the paper's exchange with one fault, and which of two
--- faults decides. Numbers, bytes and rooms are literals, so that a number, a room or an order that is changed in definition and code
+-- Refused commands, as one table: what the asking and the answering call say to the paper's exchange, or a longer command, with one
+-- fault, and which of two faults decides. Numbers, bytes and rooms are literals, so that a number, a room or an order that is changed in definition and code
 -- together is met here.
 use Prim.Native.Nat.{ℕ}
 use mathlib.Core.Path.{_≡_}
@@ -81,9 +81,8 @@ AnswerRefuses keys parts number response = Calls usually 8 65 keys parts (says 0
 -- `but 5 format99 exchange` is the exchange with 99 in its field 5
 abbrev pub RefusedCommands : Type 0
 RefusedCommands =
-    -- without a fault: the exchange, the longer command, and format 05 where it is allowed
-    Calls usually 8 65 good exchange (says 0 blockP12) (says 0 paperResponse)
-    × Calls usually 8 65 good longer (says 0 blockP12) (says 0 (paperResponse ++ trailerEND))
+    -- without a fault, beside the exchange itself (`PapersExchange`): the longer command, and format 05 where it is allowed
+    Calls usually 8 65 good longer (says 0 blockP12) (says 0 (paperResponse ++ trailerEND))
     × Calls usually 8 65 goodP4 (but 5 format05 exchange) (says 0 blockP12) (says 0 paperResponse)
     -- 901: "at least 65 bytes for the answering call, 8 for the asking call"
     × Silent usually 7 64 exchange 901
@@ -142,6 +141,7 @@ RefusedCommands =
     × BothRefuse (but 4 smallHex (but 5 format41 exchange)) 15 (hdr1bl 0x31 0x35)
     × BothRefuse (but 5 format99 (but 8 tableA exchange)) 23 (hdr1bl 0x32 0x33)
     × BothRefuse (but 5 format41 (but 6 check13 exchange)) 69 (hdr1bl 0x36 0x39)
+    × BothRefuse (but 6 check13 (but 8 tableA exchange)) 15 (hdr1bl 0x31 0x35)
     × BothRefuse (but 7 accountA (but 8 tableA exchange)) 15 (hdr1bl 0x31 0x35)
     × BothRefuse (but 8 tableA (but 9 validationNN exchange)) 25 (hdr1bl 0x32 0x35)
     × BothRefuse (but 9 validationNN (but 10 countA exchange)) 15 (hdr1bl 0x31 0x35)

@@ -2,7 +2,6 @@
 use Prim.Native.Nat.{ℕ, _-_, _%_}
 use mathlib.Core.List.{List, [], _∷_, map}
 use mathlib.Core.Bool.{Bool, cond}
-use lib.ListN.{length}
 use lib.IntN.{ℤ, pos, negsuc, _-ℤ_}
 use lib.Dec.{leb}
 use Rattle.nibbles.specs.Nibbles.{within}

@@ -13,7 +13,7 @@ use Rattle.nibbles.specs.Nibbles.{row, within, word}
 use Rattle.nibbles.proofs.Lists.{Below, map-at, map-below, below-at, below-take}
 use Rattle.nibbles.proofs.Rows.{row-length, row-at-lt}
 use Rattle.nibbles.proofs.Runs.{inside-low, inside-high}
-use Rattle.alphabet.specs.Alphabet.{characters, allOf, valueOf}
+use Rattle.alphabet.specs.Alphabet.{allOf, valueOf}
 use Rattle.naturals.specs.Naturals.{decimal, naturalOf, tableSized, tableOf, naturalPin}
 use Rattle.alphabet.specs.declared.Class.the-variants.{Digit}
 use Rattle.alphabet.proofs.Laws.{value-below}

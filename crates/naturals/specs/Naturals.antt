@@ -1,9 +1,9 @@
 -- "Offset, verdict and PVV": the decimalisation table and the natural PIN, as IBM 3624 has them.
-use Prim.Native.Nat.{ℕ, _-_}
+use Prim.Native.Nat.{ℕ}
 use mathlib.Core.List.{List, map}
 use lib.ListN.{length, getD, take}
 use lib.Dec.{leb, eqb}
-use Rattle.alphabet.specs.Alphabet.{allOf, valueOf, characters}
+use Rattle.alphabet.specs.Alphabet.{allOf, valueOf}
 use Rattle.alphabet.specs.declared.Class.the-variants.{Digit}
 use Rattle.numbers.specs.Numbers.{Outcome, done, andThen, unless}
 use Rattle.numbers.specs.declared.Refusal.the-variants.{Field15, Length24, Table25, Room901}
