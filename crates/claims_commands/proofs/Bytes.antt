@@ -22,7 +22,7 @@ use Rattle.fields.specs.Fields.{heard}
 use Rattle.responses.specs.Responses.{responding}
 use Rattle.commands.specs.Commands.{answered, commanded}
 use Rattle.commands.proofs.Laws.{answered-framed}
-use Rattle.claims_offsets.proofs.Numbers.{never-00}
+use Rattle.claims_numbers.proofs.Numbers.{never-00}
 use Rattle.claims_alike.proofs.Alike as any
 use Rattle.claims_commands.specs.Runs.{AlikeBut, Reaches}
 use Rattle.claims_commands.specs.Claims.{BytesTell, BytesTellDifferences}

@@ -47,7 +47,7 @@ use Rattle.claims_blocks.specs.Promises.{listed}
 use Rattle.claims_blocks.proofs.Judged.{Only, Fault, done-only, refused-only, test-only, then-only}
 use Rattle.claims_blocks.proofs.Trips.{read-faults}
 use Rattle.claims_commands.specs.Numbers.{askNumbers, answerNumbers, AskCounts, AnswerCounts, AskNumbers, AnswerNumbers, VariableNever81}
-use Rattle.claims_offsets.proofs.Refused.{validation-only}
+use Rattle.claims_numbers.proofs.Refused.{validation-only}
 use Rattle.claims_commands.proofs.Fields.{In, fieldNumbers, then-heard, pointed-only, fields-give}
 
 -- ---- numbers that stand in a list

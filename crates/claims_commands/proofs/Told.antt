@@ -27,7 +27,7 @@ use Rattle.bkfields.specs.declared.Bk.{Bk}
 use Rattle.bk.proofs.Places.{answer-sound}
 use Rattle.commands.specs.Commands.{answerBy, answered}
 use Rattle.commands.proofs.Laws.{answered-framed}
-use Rattle.claims_offsets.proofs.Numbers.{number-once, never-00}
+use Rattle.claims_numbers.proofs.Numbers.{number-once, never-00}
 use Rattle.claims_alike.proofs.Alike as any
 use Rattle.claims_commands.specs.Runs.{Reaches}
 use Rattle.claims_commands.specs.Claims.{ResponsesTell, saying, AnswersTell, AnswerAlike}

@@ -42,7 +42,7 @@ use Rattle.claims_blocks.specs.Promises.{listed}
 use Rattle.claims_blocks.proofs.Bytes.{nibs-row}
 use Rattle.claims_blocks.proofs.Judged as judged
 use Rattle.claims_blocks.proofs.Trips.{read-faults}
-use Rattle.claims_offsets.proofs.Numbers.{never-00}
+use Rattle.claims_numbers.proofs.Numbers.{never-00}
 use Rattle.claims_commands.proofs.Fields.{fieldNumbers, fields-give}
 use Rattle.claims_commands.proofs.Numbers.{listed-passes, answer-numbers}
 use Rattle.claims_exactly.specs.BkText.{BkParts, IsBk, IsHeader, sent}

@@ -2,10 +2,5 @@ pub mod Verdicts
 pub mod Texts
 pub mod Digits
 pub mod Converse
-pub mod Refused
-pub mod Counts
-pub mod Numbers
 pub mod Cores
 pub mod Counted
-pub mod Rooms
-pub mod Order

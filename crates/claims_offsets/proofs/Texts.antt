@@ -27,7 +27,7 @@ use Rattle.verdicts.specs.Verdicts.{offsetVerdict}
 use Rattle.claims_blocks.proofs.Lists.{run-is, every-map}
 use Rattle.claims_blocks.specs.Claims.{IsBytes}
 use Rattle.claims_offsets.specs.Claims.{OffsetVerifies}
-use Rattle.claims_offsets.proofs.Counts.{covers-four, given-check}
+use Rattle.claims_numbers.proofs.Counts.{covers-four, given-check}
 use Rattle.claims_offsets.proofs.Verdicts.{verdict-compares}
 
 -- ---- the text

@@ -29,9 +29,9 @@ use Rattle.claims_blocks.specs.Promises.{listed}
 use Rattle.claims_blocks.specs.Codes.{ofContents, OneOfThem}
 use Rattle.claims_blocks.proofs.Judged.{Only, done-only, test-only, then-only}
 use Rattle.claims_blocks.proofs.Codes.{left-to}
-use Rattle.claims_offsets.specs.Order.{ofOffset, ofVerdict, ofPvvVerdict, OffsetCodesExactly, BlockBefore81}
-use Rattle.claims_offsets.proofs.Refused.{row-only, table-only, covers-only}
-use Rattle.claims_offsets.proofs.Numbers.{In}
+use Rattle.claims_numbers.specs.Order.{ofOffset, ofVerdict, ofPvvVerdict, OffsetCodesExactly, BlockBefore81}
+use Rattle.claims_numbers.proofs.Refused.{row-only, table-only, covers-only}
+use Rattle.claims_numbers.proofs.Numbers.{In}
 
 -- ---- the format
 

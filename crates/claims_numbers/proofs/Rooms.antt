@@ -6,7 +6,7 @@ use Rattle.validation.specs.Validation.{validationBlock}
 use Rattle.naturals.specs.Naturals.{naturalPin}
 use Rattle.offsets.specs.Offsets.{offsetJudged, digitsJudged, differencesOf}
 use Rattle.pvv.specs.Pvv.{pvvInput, pvvMade}
-use Rattle.claims_offsets.specs.Rooms.{OffsetRoomFirst}
+use Rattle.claims_numbers.specs.Rooms.{OffsetRoomFirst}
 
 pub offset-room-first : OffsetRoomFirst
 unfolding validationBlock naturalPin offsetJudged digitsJudged differencesOf pvvInput pvvMade

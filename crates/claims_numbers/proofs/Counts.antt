@@ -33,7 +33,7 @@ use Rattle.pvv.specs.Pvv.{pvvInput, pvvMade}
 use Rattle.pvvdigits.proofs.Laws.{pvv-length}
 use Rattle.pvv.proofs.Laws.{call-input}
 use Rattle.claims_blocks.specs.Claims.{IsBytes}
-use Rattle.claims_offsets.specs.Numbers.{FourToTwelve, PinLength}
+use Rattle.claims_numbers.specs.Numbers.{FourToTwelve, PinLength}
 
 -- ---- the counts
 

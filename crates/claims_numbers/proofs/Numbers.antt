@@ -32,9 +32,9 @@ use Rattle.pvv.proofs.Laws as pvvs
 use Rattle.claims_blocks.specs.Promises.{listed, OfCalls}
 use Rattle.claims_blocks.proofs.Judged.{Only, done-only, then-only}
 use Rattle.claims_blocks.proofs.Numbers.{numbers-of-calls}
-use Rattle.claims_offsets.specs.Numbers.{Numbered, SoMany, FourToTwelve, PinLength, fieldNumbers, naturalNumbers, offsetNumbers, digitsNumbers, verdictNumbers, blockNumbers, pvvVerdictNumbers, NumbersOfOffsetCalls, CountsOfCalls, MadeNever81}
-use Rattle.claims_offsets.proofs.Refused.{room-only, account-only, sized-only, table-sized-only, table-only, length-only, validation-only, made-only, of-digits-only, differences-only, verdict-only, input-only, pvv-verdict-only}
-use Rattle.claims_offsets.proofs.Counts.{eight, natural-counts, made-twelve, of-digits-twelve, differences-counts, input-eight, pvv-four}
+use Rattle.claims_numbers.specs.Numbers.{Numbered, SoMany, FourToTwelve, PinLength, fieldNumbers, naturalNumbers, offsetNumbers, digitsNumbers, verdictNumbers, blockNumbers, pvvVerdictNumbers, NumbersOfOffsetCalls, CountsOfCalls, MadeNever81}
+use Rattle.claims_numbers.proofs.Refused.{room-only, account-only, sized-only, table-sized-only, table-only, length-only, validation-only, made-only, of-digits-only, differences-only, verdict-only, input-only, pvv-verdict-only}
+use Rattle.claims_numbers.proofs.Counts.{eight, natural-counts, made-twelve, of-digits-twelve, differences-counts, input-eight, pvv-four}
 
 -- ---- the numbers of refusals
 

@@ -1,0 +1,5 @@
+pub mod Refused
+pub mod Counts
+pub mod Numbers
+pub mod Rooms
+pub mod Order
