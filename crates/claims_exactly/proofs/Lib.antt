@@ -2,7 +2,8 @@ pub mod BkFields
 pub mod Claims
 pub mod Sizes
 pub mod Sent
-pub mod Finish
+pub mod Calls
+pub mod BkCalls
 pub mod Held
 pub mod Responses
 pub mod Typed

@@ -14,11 +14,11 @@ use Rattle.weak.specs.Weak.{isOn}
 use Rattle.texts.specs.Characters.{printed}
 use Rattle.texts_keys.specs.KeyTexts.{pinKeyRule, pvkRule, IsBlock}
 use Rattle.texts_data.specs.DataTexts.{Allows}
-use Rattle.claims_exactly.specs.BkText.{IsBk, IsHeader}
+use Rattle.claims_exactly.specs.BkText.{IsBk}
+use Rattle.claims_exactly.specs.Sent.{IsHeader}
 use Rattle.claims_exactly.specs.Typed.{shortest, longest, full, FullIsBk, FullIsAsked, fullBlock, fullEnciphered, fullSaid, FullIsAnswered, spare, SpareIsBk, SpareIsAsked}
 use Rattle.claims_exactly.specs.Responses.{finishOf, responseTo}
-use Rattle.claims_exactly.proofs.Finish.{answers-parts}
-use Rattle.claims_exactly.proofs.Responses.{asks-parts}
+use Rattle.claims_exactly.proofs.BkCalls.{asks-parts, answers-parts}
 
 shortest-is : IsBlock pinKeyRule shortest
 unfolding allOf

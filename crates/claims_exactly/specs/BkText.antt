@@ -1,10 +1,8 @@
--- The BK command: its twelve fields, one after the other, and the bytes that the host sends.
-use Prim.Native.Nat.{ℕ, _≤_}
+-- The BK command: its twelve fields, one after the other.
+use Prim.Native.Nat.{ℕ}
 use mathlib.Core.List.{List, _++_}
 use mathlib.Core.Bool.{Bool}
-use Rattle.alphabet.specs.declared.Class.the-variants.{Printable}
-use Rattle.texts.specs.Characters.{printed}
-use Rattle.texts.specs.Texts.{Run, Optional, WherePresent, optionalText}
+use Rattle.texts.specs.Texts.{Optional, WherePresent, optionalText}
 use Rattle.texts_keys.specs.KeyTexts.{pinKeyRule, pvkRule, keyIds, ownIds, AllSame}
 use Rattle.texts_data.specs.DataTexts.{WeakList, weakText, IsWeakList, markOfWeakList}
 use Rattle.texts_stages.specs.StageTexts.{KeyFields, keysText, AreKeys, SealedFields, sealedText, AreSealed, InputFields, inputsText, AreInputs, EndFields, endText, AreEnd}
@@ -33,13 +31,3 @@ pub record IsBk (restricted : Bool) (p : BkParts) : Type 0 where
   pub weak : WherePresent IsWeakList (p .weak)
   pub end : AreEnd (p .end)
   pub ids : AllSame (bkIds p)
-
--- ---- before the fields
-
--- "header length 0 to 16"; "a header byte outside 20 to 7E hex" is no frame
-abbrev pub IsHeader : ℕ → List ℕ → Type 0
-IsHeader setting header = (setting ≤ 16) × Run Printable setting header
-
--- the bytes that the host sends: header, command code, fields; "The two length bytes before a command are the server's affair"
-abbrev pub sent : List ℕ → BkParts → List ℕ
-sent header p = header ++ (printed "BK" ++ bkText p)

@@ -25,9 +25,18 @@ use Rattle.fields.proofs.Rulings.{pointing-done}
 use Rattle.responses.specs.Responses.{Payload, responding}
 use Rattle.responses.proofs.Laws.{Blocky, Sound}
 use Rattle.bk.proofs.Places.{asked-row, answer-sound}
-use Rattle.commands.specs.Commands.{askBy, answerBy, opened, asking, answered, commanded}
+use Rattle.commands.specs.Commands.{askBy, answerBy, opened, asking, asked, answered, commanded}
 
 -- ---- the asking call
+
+module _ (settings : Settings) (s : List ℕ) (room : ℕ) where
+  pub asked-902 : 8 ≤ room → isFramed (settings .header) s ≡ false → asked settings s room ≡ refused Frame902
+  unfolding asking
+  asked-902 r f = rw (le-leb 8 room r, f)
+
+  pub asked-framed : 8 ≤ room → isFramed (settings .header) s ≡ true → asked settings s room ≡ heard (askBy (codeOf (drop (settings .header) s)) settings s (settings .header + 2))
+  unfolding asking
+  asked-framed r f = rw (le-leb 8 room r, f)
 
 -- what it asks for is a block, and there is room for it
 pub asked-block : (settings : Settings) (s : List ℕ) (room : ℕ) → Blocky (asking settings s room) room

@@ -11,7 +11,7 @@ use lib.Seq.{length-take-le, take-all, take-at, drop-at, drop-drop, getD-drop}
 use lib.Dec.{leb, eqb}
 use borrow.Author.Tests.{leb-true, eqb-true}
 use Rattle.alphabet.specs.Alphabet.{begins}
-use Rattle.frame.specs.Frame.{isFramed, opening, inTwoDigits, bk, longestCommand}
+use Rattle.frame.specs.Frame.{isFramed, raised, opening, inTwoDigits, bk, longestCommand}
 use Rattle.settings.specs.Settings.{longestHeader}
 
 -- ---- what a frame has, and what a response opens with
@@ -30,24 +30,28 @@ pub opening-length : (header : ℕ) (s : List ℕ) (number : ℕ) → header + 2
 unfolding opening
 opening-length header s number h = simp (length-append, length-take-le header s (omega arith))
 
--- bytes that begin with BK are B and K
-bk-bytes : (cs : List ℕ) → begins bk cs ≡ true → (getD cs 0 0 ≡ 0x42) × (getD cs 1 0 ≡ 0x4B)
+-- bytes that begin with two others are those
+two-bytes : (a b : ℕ) (cs : List ℕ) → begins (a ∷ b ∷ []) cs ≡ true → (getD cs 0 0 ≡ a) × (getD cs 1 0 ≡ b)
 unfolding begins
-bk-bytes [] h = absurd (false≢true h)
-bk-bytes (a ∷ []) h = absurd (false≢true (and-eq-true-iff (eqb 0x42 a) false .0 h .1))
-bk-bytes (a ∷ b ∷ cs) h =
-    let p = and-eq-true-iff (eqb 0x42 a) _ .0 h in
-    let q = and-eq-true-iff (eqb 0x4B b) _ .0 (p .1) in
-    (sym (eqb-true 0x42 a (p .0)), sym (eqb-true 0x4B b (q .0)))
+two-bytes a b [] h = absurd (false≢true h)
+two-bytes a b (c ∷ []) h = absurd (false≢true (and-eq-true-iff (eqb a c) false .0 h .1))
+two-bytes a b (c ∷ d ∷ cs) h =
+    let p = and-eq-true-iff (eqb a c) _ .0 h in
+    let q = and-eq-true-iff (eqb b d) _ .0 (p .1) in
+    (sym (eqb-true a c (p .0)), sym (eqb-true b d (q .0)))
 
--- a command BK is answered BL
-pub bk-answers-bl : (header : ℕ) (s : List ℕ) (number : ℕ) → begins bk (drop header s) ≡ true → opening header s number ≡ take header s ++ (0x42 ∷ 0x4C ∷ inTwoDigits number)
+-- a command is answered with its code, "its second byte raised by one"
+pub code-answered : (a b header : ℕ) (s : List ℕ) (number : ℕ) → begins (a ∷ b ∷ []) (drop header s) ≡ true → opening header s number ≡ take header s ++ (a ∷ raised b ∷ inTwoDigits number)
 unfolding opening
-bk-answers-bl header s number h =
-    let p = bk-bytes (drop header s) h in
-    let first : getD s header 0 ≡ 0x42 = ap (λ (k : ℕ). getD s k 0) (sym (add-zero header)) ∙ sym (getD-drop header s 0 0) ∙ p .0 in
-    let second : getD s (header + 1) 0 ≡ 0x4B = sym (getD-drop header s 1 0) ∙ p .1 in
+code-answered a b header s number h =
+    let p = two-bytes a b (drop header s) h in
+    let first : getD s header 0 ≡ a = ap (λ (k : ℕ). getD s k 0) (sym (add-zero header)) ∙ sym (getD-drop header s 0 0) ∙ p .0 in
+    let second : getD s (header + 1) 0 ≡ b = sym (getD-drop header s 1 0) ∙ p .1 in
     rw (first, second)
+
+-- so BK is answered BL
+pub bk-answers-bl : (header : ℕ) (s : List ℕ) (number : ℕ) → begins bk (drop header s) ≡ true → opening header s number ≡ take header s ++ (0x42 ∷ 0x4C ∷ inTwoDigits number)
+bk-answers-bl = code-answered 0x42 0x4B
 
 -- ---- a buffer that is written from its beginning, piece after piece
 
