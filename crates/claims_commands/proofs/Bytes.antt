@@ -6,29 +6,26 @@ use mathlib.Core.Path.{_≡_, refl, sym, ap, ap₂, _∙_}
 use mathlib.Core.List.{List, [], _∷_, _++_, append-assoc, append-nil, append-cancel-left}
 use mathlib.Core.Bool.{Bool}
 use lib.ListN.{getD, take}
-use lib.Dec.{ltb}
-use borrow.Author.Tests.{ltb-true}
-use Rattle.nibbles.specs.Nibbles.{every}
 use Rattle.numbers.specs.Numbers.{Outcome, done, refused, numberOf}
 use Rattle.numbers.specs.Promise.{Said}
 use Rattle.numbers.specs.declared.Refusal.{Refusal}
 use Rattle.settings.specs.declared.Settings.{Settings}
 use Rattle.frame.specs.Frame.{raised, inTwoDigits, opening}
-use Rattle.keyfields.specs.declared.Keys.{Keys}
-use Rattle.sealed.specs.declared.Sealed.{Sealed}
+use Rattle.frame.specs.declared.Code.{Code}
+use Rattle.frame.specs.declared.Code.the-variants as code
 use Rattle.bkfields.specs.BkFields.{bkFields}
-use Rattle.bkfields.specs.declared.Bk.{Bk}
-use Rattle.fields.specs.Fields.{heard}
+use Rattle.fields.specs.Fields.{Ruling}
 use Rattle.responses.specs.Responses.{responding}
-use Rattle.commands.specs.Commands.{answered, commanded}
+use Rattle.commands.specs.Commands.{answered}
 use Rattle.commands.proofs.Laws.{answered-framed}
 use Rattle.claims_numbers.proofs.Numbers.{never-00}
+use Rattle.claims_alike.specs.Alike.{Layout, fields, Outside}
 use Rattle.claims_alike.proofs.Alike as any
-use Rattle.claims_commands.specs.Runs.{AlikeBut, Reaches}
+use Rattle.claims_commands.specs.Runs.{Reached}
 use Rattle.claims_commands.specs.Claims.{BytesTell, BytesTellDifferences}
 use Rattle.claims_commands.proofs.Listing.{bkLayout}
 use Rattle.claims_commands.proofs.Alike.{opening-alike}
-use Rattle.claims_commands.proofs.Numbers.{framed-passes, commanded-gives}
+use Rattle.claims_commands.proofs.Numbers.{two-digit}
 use Rattle.claims_commands.proofs.Differences.{offsets-tell-differences}
 
 -- two digits tell a number under 100
@@ -69,28 +66,26 @@ bytes-tell = bytes-told
 
 -- ---- two runs
 
--- their numbers have two digits
-two-digit : (settings : Settings) (g h : Bool) (s block enciphered : List ℕ) (q : Refusal) → heard (commanded settings g h s block enciphered (settings .header)) ≡ refused q → numberOf q < 100
-unfolding every
-two-digit settings g h s block enciphered q e =
-    ltb-true (numberOf q) 100 (framed-passes (λ m. ltb m 100) refl (settings .variable) q (commanded-gives settings g h s block enciphered (settings .header) q e))
-
--- so where their bytes agree all that they say does
-pub bytes-settle : (settings : Settings) (g h : Bool) (room room′ : ℕ) (s t block block′ enciphered enciphered′ : List ℕ)
-    (r : Reaches settings g h room s block enciphered) (r′ : Reaches settings g h room′ t block′ enciphered′) → AlikeBut (r .fields .sealed .block) s t
-    → answered settings g h s block enciphered room .written ≡ answered settings g h t block′ enciphered′ room′ .written
-    → answered settings g h s block enciphered room ≡ answered settings g h t block′ enciphered′ room′
-unfolding bkFields
-bytes-settle settings g h room room′ s t block block′ enciphered enciphered′ r r′ alike e =
+-- of any command, which lies around its PIN block: where their bytes agree all that they say does
+pub bytes-settle : {n : ℕ} {F X A S R : Type 0} (l : Layout n F X A S) (command : Code) (box box′ : Ruling R)
+    (settings : Settings) (g h g′ h′ : Bool) (room room′ : ℕ) (s t block block′ enciphered enciphered′ : List ℕ)
+    (r : Reached command (fields l) box (settings .header) room s) (r′ : Reached command (fields l) box′ (settings .header) room′ t) → Outside n (l .place (r .fields)) s t
+    → answered settings g h s block enciphered room .written ≡ answered settings g′ h′ t block′ enciphered′ room′ .written
+    → answered settings g h s block enciphered room ≡ answered settings g′ h′ t block′ enciphered′ room′
+bytes-settle {n} {F} {X} {A} {S} l command box box′ settings g h g′ h′ room room′ s t block block′ enciphered enciphered′ r r′ alike e =
     let header = settings .header in
-    let within = any.read-alike 16 Keys Sealed Bk (List ℕ) (bkLayout (settings .restricted)) s t (header + 2) (r .fields) (r′ .fields) (r .past) (r′ .past) (r .read) (r′ .read) alike .within in
+    let within = any.read-alike n F X A S l s t (header + 2) (r .fields) (r′ .fields) (r .past) (r′ .past) (r .read) (r′ .read) alike .within in
     let here = answered-framed settings g h s block enciphered room (r .roomy) (r .framed) in
-    let there = answered-framed settings g h t block′ enciphered′ room′ (r′ .roomy) (r′ .framed) in
+    let there = answered-framed settings g′ h′ t block′ enciphered′ room′ (r′ .roomy) (r′ .framed) in
     let bytes = ap (λ (x : Said ℕ). x .written) (sym here) ∙ e ∙ ap (λ (x : Said ℕ). x .written) there in
-    let opened : (k : ℕ) → opening header s k ≡ opening header t k = λ k. opening-alike header k (r .fields .sealed .block) s t within (alike .before) in
-    here ∙ bytes-tell header s t opened _ _ (two-digit settings g h s block enciphered) (two-digit settings g h t block′ enciphered′) bytes ∙ sym there
+    let opened : (k : ℕ) → opening header s k ≡ opening header t k = λ k. opening-alike header k (l .place (r .fields)) s t within (alike .before) in
+    here ∙ bytes-tell header s t opened _ _ (two-digit settings g h s block enciphered header) (two-digit settings g′ h′ t block′ enciphered′ header) bytes ∙ sym there
 
+-- of BK
 pub bytes-tell-differences : BytesTellDifferences
+unfolding bkFields
 bytes-tell-differences settings g h room room′ s t block block′ enciphered enciphered′ r r′ m alike long c =
-    let tell = offsets-tell-differences settings g h room room′ s t block block′ enciphered enciphered′ r r′ m alike long c in
-    (λ e. tell .0 (bytes-settle settings g h room room′ s t block block′ enciphered enciphered′ (r .reaches) (r′ .reaches) alike e), λ e. ap (λ (x : Said ℕ). x .written) (tell .1 e))
+    let tell = offsets-tell-differences settings g h room room′ s t block block′ enciphered enciphered′ r r′ m alike long c in (
+      λ e. tell .0 (bytes-settle (bkLayout (settings .restricted)) code.Bk _ _ settings g h g h room room′ s t block block′ enciphered enciphered′ (r .reaches) (r′ .reaches) alike e),
+      λ e. ap (λ (x : Said ℕ). x .written) (tell .1 e),
+    )

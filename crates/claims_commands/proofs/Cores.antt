@@ -26,7 +26,7 @@ use Rattle.frame.specs.Frame as frame
 use Rattle.frame.specs.Frame.{isFramed, framed, opening}
 use Rattle.frame.specs.declared.Code.{Code}
 use Rattle.frame.specs.declared.Code.the-variants.{Bk, Other}
-use Rattle.fields.specs.Fields.{Stage, read, faulty, onward, ruled, unpointed, heard, run, number, trailer}
+use Rattle.fields.specs.Fields.{read, onward, unpointed, heard, run, number, trailer}
 use Rattle.fields.specs.declared.Fault.{Fault}
 use Rattle.fields.proofs.Rulings.{heard-refused}
 use Rattle.lmk.specs.Lmk.{lmkField}
@@ -54,6 +54,8 @@ use Rattle.claims_blocks.specs.Promises.{Only00, Apart}
 use Rattle.claims_offsets.specs.Figures.{blockP2, encipheredP9}
 use Rattle.claims_commands.specs.Cores.{commandOf, otherAccount, encipheredZeros, asks, answers, CommandsNotRefusing, CommandsNotFixed, CommandsNotSilent, PapersExchange, AnswerReadsTheFields}
 use Rattle.fields.proofs.Reading.{onward-read, read-once}
+use Rattle.claims_commands.proofs.Shapes.{answer-refuses}
+use Rattle.claims_commands.proofs.Listing.{bkShape}
 use Rattle.uses.specs.Uses.{pinKey, pvk}
 use Rattle.keyfields.specs.declared.Keys.{Keys}
 use Rattle.sealed.specs.declared.Sealed.{Sealed}
@@ -141,9 +143,6 @@ papers-exchange = (λ before h. asks-said before h .0, λ before h. answers-said
 refusal-of : {Q A : Type 0} {p q : Q} → _≡_ {A = Judged Q A} (refused p) (refused q) → p ≡ q
 refusal-of e = cc
 
-not-refused : {Q A : Type 0} {a : A} {q : Q} → _≡_ {A = Judged Q A} (done a) (refused q) → ⊥
-not-refused e = let z : _≡_ {A = ℕ} 0 1 = cc in omega arith
-
 -- the check length and the fields behind it were read
 measured : (restricted : Bool) (s : List ℕ) (at : ℕ) (p : bk.Bk) (past : ℕ) → bkFields restricted s at ≡ read p past → (at₆ : ℕ) × (at₁₀ : ℕ) × (offsetting 6 s at₆ ≡ read (p .offsetting) at₁₀)
 unfolding bkFields
@@ -161,29 +160,18 @@ measured restricted s at p past e =
         let u = onward-read (end 11 ks s (o .1)) _ p past (o .3) in
         h ∙ ap (λ (q : bk.Bk). read (q .offsetting) at₁₀) (read-once (u .3) .0)
 
--- the asking call refuses nothing behind the fields
-fields-refuse : (settings : Settings) (s : List ℕ) (at : ℕ) (f : Fault) → bkAsk settings s at ≡ refused f → ruled (bkFields (settings .restricted) s at) ≡ refused f
-unfolding bkAsk
-fields-refuse settings s at q = by-fields (bkFields (settings .restricted) s at) refl
-  where
-    by-fields :
-        (stage : Stage bk.Bk) → bkFields (settings .restricted) s at ≡ stage
-        → andThen (ruled stage) (λ p. unpointed (askedAt s (p .offsetting))) ≡ refused q → ruled stage ≡ refused q
-    by-fields (read p past) f e =
-        let h = measured (settings .restricted) s at p past f in
-        let row = row-of-valid (accountIn s (p .offsetting)) (validationIn s (p .offsetting)) (offsetting-held 6 s (h .0) (p .offsetting) (h .1) (h .2) .valid) in
-        absurd (not-refused (rw (row .1) at e))
-    by-fields (faulty f) _ e = ap refused (refusal-of e)
+-- so the asking call refuses nothing behind the fields
+asked-done : (restricted : Bool) (s : List ℕ) (at : ℕ) (p : bk.Bk) (past : ℕ) → bkFields restricted s at ≡ read p past → (bytes : List ℕ) × (askedAt s (p .offsetting) ≡ done bytes)
+asked-done restricted s at p past e =
+    let h = measured restricted s at p past e in
+    let row = row-of-valid (accountIn s (p .offsetting)) (validationIn s (p .offsetting)) (offsetting-held 6 s (h .0) (p .offsetting) (h .1) (h .2) .valid) in
+    (packs (row .0), rw (row .1) refl)
 
 module _ (settings : Settings) (g h : Bool) (s block enciphered : List ℕ) where
-  -- so the answering call refuses in them too
-  answer-refuses : (at : ℕ) (f : Fault) → bkAsk settings s at ≡ refused f → bkAnswer settings g h s at block enciphered ≡ refused f
-  unfolding bkAnswer
-  answer-refuses at f e = rw (fields-refuse settings s at f e)
-
+  -- and the answering call refuses in them too
   by-code : (c : Code) (at : ℕ) (f : Fault) → askBy c settings s at ≡ refused f → answerBy c settings g h s at block enciphered ≡ refused f
   unfolding askBy answerBy
-  by-code Bk at f e = answer-refuses at f e
+  by-code Bk at f e = answer-refuses (bkShape settings) (asked-done (settings .restricted)) g h s at block enciphered f e
   by-code Other at f e = ap refused (refusal-of e)
 
   by-frame :

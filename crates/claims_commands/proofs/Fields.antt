@@ -1,12 +1,14 @@
 -- For what the fields of a command are refused: reader by reader, then stage by stage.
 -- Assumes nothing.
 use Prim.Native.Nat.{ℕ, _+_, _-_, _*_}
-use mathlib.Core.Path.{_≡_, refl, sym, subst}
+use mathlib.Core.Path.{_≡_, refl, sym, ap, _∙_, subst}
 use mathlib.Core.List.{List, [], _∷_}
-use mathlib.Core.Bool.{Bool, true, false, _&&_, cond}
+use mathlib.Core.Bool.{Bool, true, false, _&&_, _||_, cond, false≢true}
 use lib.ListN.{length, getD, take, drop}
 use lib.Dec.{leb, eqb}
-use Rattle.nibbles.specs.Nibbles.{within}
+use borrow.Author.Tests.{eqb-true}
+use Rattle.nibbles.specs.Nibbles.{within, every}
+use Rattle.nibbles.proofs.Lists.{and-left, and-right}
 use Rattle.alphabet.specs.Alphabet.{admits, allOf, begins, valueOf}
 use Rattle.alphabet.specs.declared.Class.{Class}
 use Rattle.alphabet.specs.declared.Class.the-variants.{Digit, CapitalHex, Printable}
@@ -42,6 +44,26 @@ use Rattle.bkfields.specs.BkFields.{weakMark, bkFields}
 use Rattle.claims_blocks.specs.Promises.{listed}
 use Rattle.claims_blocks.proofs.Judged.{Only, done-only, refused-only, test-only, then-only}
 
+-- ---- numbers that stand in a list
+
+-- what passes at every number of a list passes at each that stands in it
+pub listed-passes : (p : ℕ → Bool) (n : ℕ) (ms : List ℕ) → every p ms ≡ true → listed n ms ≡ true → p n ≡ true
+unfolding every
+listed-passes p n [] h e = absurd (false≢true e)
+listed-passes p n (m ∷ ms) h e = by-test (eqb n m) refl e (listed-passes p n ms (and-right (p m) (every p ms) h))
+  where
+    by-test : (b : Bool) → eqb n m ≡ b → (b || listed n ms) ≡ true → (listed n ms ≡ true → p n ≡ true) → p n ≡ true
+    by-test true same e rest = ap p (eqb-true n m same) ∙ and-left (p m) (every p ms) h
+    by-test false same e rest = rest e
+
+-- a refusal whose number stands in a list
+abbrev pub In : List ℕ → Refusal → Type 0
+In numbers q = listed (numberOf q) numbers ≡ true
+
+-- so what is refused for the numbers of a list is refused for those of a longer one
+pub wider : {A : Type 0} (ms ns : List ℕ) (o : Outcome A) → every (λ m. listed m ns) ms ≡ true → Only (In ms) o → Only (In ns) o
+wider ms ns o h c q e = listed-passes (λ m. listed m ns) (numberOf q) ms h (c q e)
+
 -- ---- over any refusals
 
 module _ (these : Refusal → Type 0) where
@@ -51,7 +73,7 @@ module _ (these : Refusal → Type 0) where
   either-only false o o′ c d = d
 
   -- a reader behind some characters
-  behind-only : {A : Type 0} (n : ℕ) (o : Found A) → Only these o → Only these (behind n o)
+  pub behind-only : {A : Type 0} (n : ℕ) (o : Found A) → Only these o → Only these (behind n o)
   behind-only n (done r) c = done-only these (r .0, n + r .1)
   behind-only n (refused q) c = refused-only these q (c q refl)
 
@@ -65,26 +87,26 @@ module _ (these : Refusal → Type 0) where
   pointed-only which at o c = subst (Only these) (sym (heard-pointing which at o)) c
 
   -- a field, and what comes next
-  fielded-only : {A B : Type 0} (k at : ℕ) (o : Found A) (next : A → ℕ → Stage B) → Only these o → ((a : A) (past : ℕ) → Only these (outcome (next a past)))
+  pub fielded-only : {A B : Type 0} (k at : ℕ) (o : Found A) (next : A → ℕ → Stage B) → Only these o → ((a : A) (past : ℕ) → Only these (outcome (next a past)))
       → Only these (outcome (fielded k at o next))
   fielded-only k at (done r) next c n = n (r .0) (at + r .1)
   fielded-only k at (refused q) next c n = refused-only these q (c q refl)
 
   -- a stage, and what comes next
-  onward-only : {A B : Type 0} (stage : Stage A) (next : A → ℕ → Stage B) → Only these (outcome stage) → ((a : A) (past : ℕ) → Only these (outcome (next a past)))
+  pub onward-only : {A B : Type 0} (stage : Stage A) (next : A → ℕ → Stage B) → Only these (outcome stage) → ((a : A) (past : ℕ) → Only these (outcome (next a past)))
       → Only these (outcome (onward stage next))
   onward-only (read a past) next c n = n a past
   onward-only (faulty f) next c n = refused-only these (f .refusal) (c (f .refusal) refl)
 
   -- so many characters of a class: for a missing one and for a wrong one
-  run-only : (k : Class) (missing wrong : Refusal) → these missing → these wrong → (n : ℕ) (cs : List ℕ) → Only these (run k missing wrong n cs)
+  pub run-only : (k : Class) (missing wrong : Refusal) → these missing → these wrong → (n : ℕ) (cs : List ℕ) → Only these (run k missing wrong n cs)
   unfolding run
   run-only k missing wrong m w n cs =
       then-only these (unless missing (leb n (length cs)) n) _ (test-only these missing m (leb n (length cs)) n)
       (λ _. test-only these wrong w (allOf k (take n cs)) (n, n))
 
   -- a number of two digits
-  number-only : (low high : ℕ) (wrong : Refusal) → these wrong → (cs : List ℕ) → Only these (number low high wrong cs)
+  pub number-only : (low high : ℕ) (wrong : Refusal) → these wrong → (cs : List ℕ) → Only these (number low high wrong cs)
   unfolding number
   number-only low high wrong w cs =
       then-only these (run Digit wrong wrong 2 cs) _ (run-only Digit wrong wrong w w 2 cs)
@@ -92,19 +114,22 @@ module _ (these : Refusal → Type 0) where
 
 -- ---- the readers
 
--- a refusal whose number stands in a list
-abbrev pub In : List ℕ → Refusal → Type 0
-In numbers q = listed (numberOf q) numbers ≡ true
+-- the numbers of the fields that commands share
+abbrev pub sharedNumbers : List ℕ
+sharedNumbers = 15 ∷ 23 ∷ 25 ∷ 26 ∷ 29 ∷ 69 ∷ []
 
--- the numbers of the fields
-abbrev pub fieldNumbers : List ℕ
-fieldNumbers = 3 ∷ 15 ∷ 23 ∷ 25 ∷ 26 ∷ 29 ∷ 69 ∷ []
+abbrev pub OfFields : Refusal → Type 0
+OfFields = In sharedNumbers
 
-abbrev OfFields : Refusal → Type 0
-OfFields = In fieldNumbers
+-- those of the weak list, which not every command has
+abbrev pub weakNumbers : List ℕ
+weakNumbers = 3 ∷ 15 ∷ []
+
+abbrev pub OfWeak : Refusal → Type 0
+OfWeak = In weakNumbers
 
 -- 15
-type-gives : (cs : List ℕ) → Only OfFields (keyType cs)
+pub type-gives : (cs : List ℕ) → Only OfFields (keyType cs)
 unfolding keyType
 type-gives cs =
     either-only OfFields (begins type001 cs) _ _ (done-only OfFields (onlyUOrT, 3))
@@ -148,7 +173,7 @@ lettered-gives letters for cs =
     (either-only OfFields (marked letterS cs) _ _ (behind-gives (letters .block) _ (block-gives for (drop 1 cs)))
     (admitted-gives (letters .bare && admits CapitalHex (getD cs 0 0)) _ (hex-gives 32 cs))))
 
-key-gives : (letters : Letters) (for : Use) (cs : List ℕ) → Only OfFields (key letters for cs)
+pub key-gives : (letters : Letters) (for : Use) (cs : List ℕ) → Only OfFields (key letters for cs)
 unfolding key
 key-gives letters for cs = either-only OfFields (leb 1 (length cs)) _ _ (lettered-gives letters for cs) (refused-only OfFields Field15 refl)
 
@@ -159,7 +184,7 @@ code-gives Known = refused-only OfFields NotHere69 refl
 code-gives Unknown = refused-only OfFields Format23 refl
 
 -- 15, 23, 69
-format-gives : (restricted : Bool) (cs : List ℕ) → Only OfFields (formatField restricted cs)
+pub format-gives : (restricted : Bool) (cs : List ℕ) → Only OfFields (formatField restricted cs)
 unfolding formatField
 format-gives restricted cs =
     then-only OfFields (number 0 99 Field15 cs) _ (number-only OfFields 0 99 Field15 refl cs)
@@ -167,31 +192,31 @@ format-gives restricted cs =
     (λ f. test-only OfFields NotHere69 refl (allows restricted f) (f, code .1)))
 
 -- 15
-validation-gives : (cs : List ℕ) → Only OfFields (validationField cs)
+pub validation-gives : (cs : List ℕ) → Only OfFields (validationField cs)
 unfolding validationField
 validation-gives cs =
     then-only OfFields (unless Field15 (leb (widthOf cs) (length cs)) (widthOf cs)) _ (test-only OfFields Field15 refl (leb (widthOf cs) (length cs)) (widthOf cs))
     (λ n. test-only OfFields Field15 refl (isValidation (take n cs)) (shapeOf (take n cs), n))
 
 -- 15 for the length of the weak PINs, 03 for their list
-list-gives : (at count : ℕ) (cs : List ℕ) → Only OfFields (list.listed at count cs)
+list-gives : (at count : ℕ) (cs : List ℕ) → Only OfWeak (list.listed at count cs)
 unfolding list.listed
 list-gives at count cs =
-    either-only OfFields (eqb count 0) _ _ (done-only OfFields (noneAt at, 0))
-    (then-only OfFields (number 4 12 Field15 cs) _ (number-only OfFields 4 12 Field15 refl cs)
-    (λ each. then-only OfFields (run Digit WeakList03 WeakList03 (count * each .0) (drop 2 cs)) _ (run-only OfFields Digit WeakList03 WeakList03 refl refl (count * each .0) (drop 2 cs))
-    (λ digits. done-only OfFields _)))
+    either-only OfWeak (eqb count 0) _ _ (done-only OfWeak (noneAt at, 0))
+    (then-only OfWeak (number 4 12 Field15 cs) _ (number-only OfWeak 4 12 Field15 refl cs)
+    (λ each. then-only OfWeak (run Digit WeakList03 WeakList03 (count * each .0) (drop 2 cs)) _ (run-only OfWeak Digit WeakList03 WeakList03 refl refl (count * each .0) (drop 2 cs))
+    (λ digits. done-only OfWeak _)))
 
 -- 03 for their count
-weak-gives : (mark at : ℕ) (cs : List ℕ) → Only OfFields (weakField mark at cs)
+pub weak-gives : (mark at : ℕ) (cs : List ℕ) → Only OfWeak (weakField mark at cs)
 unfolding weakField
 weak-gives mark at cs =
-    either-only OfFields (marked mark cs) _ _
-    (then-only OfFields (number 0 99 WeakList03 (drop 1 cs)) _ (number-only OfFields 0 99 WeakList03 refl (drop 1 cs)) (λ count. behind-only OfFields 3 _ (list-gives (at + 3) (count .0) (drop 3 cs))))
-    (done-only OfFields (noneAt at, 0))
+    either-only OfWeak (marked mark cs) _ _
+    (then-only OfWeak (number 0 99 WeakList03 (drop 1 cs)) _ (number-only OfWeak 0 99 WeakList03 refl (drop 1 cs)) (λ count. behind-only OfWeak 3 _ (list-gives (at + 3) (count .0) (drop 3 cs))))
+    (done-only OfWeak (noneAt at, 0))
 
 -- 15
-lmk-gives : (cs : List ℕ) → Only OfFields (lmkField cs)
+pub lmk-gives : (cs : List ℕ) → Only OfFields (lmkField cs)
 unfolding lmkField
 lmk-gives cs =
     either-only OfFields (marked 0x25 cs) _ _
@@ -199,7 +224,7 @@ lmk-gives cs =
     (done-only OfFields _)
 
 -- 15
-trailer-gives : (cs : List ℕ) → Only OfFields (trailer cs)
+pub trailer-gives : (cs : List ℕ) → Only OfFields (trailer cs)
 unfolding trailer
 trailer-gives cs =
     let n = atMost longestTrailer (length (drop 1 cs)) in
@@ -209,7 +234,7 @@ trailer-gives cs =
 
 -- ---- the stages
 
-keys-give : (first : ℕ) (use₁ use₂ : Use) (s : List ℕ) (at : ℕ) → Only OfFields (outcome (keys first use₁ use₂ s at))
+pub keys-give : (first : ℕ) (use₁ use₂ : Use) (s : List ℕ) (at : ℕ) → Only OfFields (outcome (keys first use₁ use₂ s at))
 unfolding keys
 keys-give first use₁ use₂ s at =
     fielded-only OfFields first at (keyType (drop at s)) _ (type-gives (drop at s))
@@ -217,14 +242,14 @@ keys-give first use₁ use₂ s at =
     (λ lmk₁ at₃. fielded-only OfFields (first + 2) at₃ (key letters use₂ (drop at₃ s)) _ (key-gives letters use₂ (drop at₃ s))
     (λ lmk₂ next. done-only OfFields _)))
 
-sealed-gives : (first : ℕ) (restricted : Bool) (s : List ℕ) (at : ℕ) → Only OfFields (outcome (sealed first restricted s at))
+pub sealed-gives : (first : ℕ) (restricted : Bool) (s : List ℕ) (at : ℕ) → Only OfFields (outcome (sealed first restricted s at))
 unfolding sealed
 sealed-gives first restricted s at =
     fielded-only OfFields first at (run CapitalHex Field15 Field15 16 (drop at s)) _ (run-only OfFields CapitalHex Field15 Field15 refl refl 16 (drop at s))
     (λ _ format. fielded-only OfFields (first + 1) format (formatField restricted (drop format s)) _ (format-gives restricted (drop format s))
     (λ f next. done-only OfFields _))
 
-offsetting-gives : (first : ℕ) (s : List ℕ) (at : ℕ) → Only OfFields (outcome (offsetting first s at))
+pub offsetting-gives : (first : ℕ) (s : List ℕ) (at : ℕ) → Only OfFields (outcome (offsetting first s at))
 unfolding offsetting
 offsetting-gives first s at =
     fielded-only OfFields first at (number 4 12 Field15 (drop at s)) _ (number-only OfFields 4 12 Field15 refl (drop at s))
@@ -233,9 +258,9 @@ offsetting-gives first s at =
     (λ _ validation. fielded-only OfFields (first + 3) validation (validationField (drop validation s)) _ (validation-gives (drop validation s))
     (λ shape next. done-only OfFields _))))
 
-listing-gives : (first mark : ℕ) (s : List ℕ) (at : ℕ) → Only OfFields (outcome (weak first mark s at))
+pub listing-gives : (first mark : ℕ) (s : List ℕ) (at : ℕ) → Only OfWeak (outcome (weak first mark s at))
 unfolding weak
-listing-gives first mark s at = fielded-only OfFields first at (weakField mark at (drop at s)) _ (weak-gives mark at (drop at s)) (λ w next. done-only OfFields w)
+listing-gives first mark s at = fielded-only OfWeak first at (weakField mark at (drop at s)) _ (weak-gives mark at (drop at s)) (λ w next. done-only OfWeak w)
 
 -- what is left over and ids that do not agree are 15
 closed-gives : (ks : Keys) (own : Lmk) (first at : ℕ) (s : List ℕ) (mark past : ℕ) → Only OfFields (outcome (closed ks own first at s mark past))
@@ -251,20 +276,29 @@ closed-gives ks own first at s mark past = by-test (leb (length s) past) (allAgr
     by-test true false = refused-only OfFields (lastId ks own first at .refusal) (last (present own) _ _ refl refl)
     by-test false alike = refused-only OfFields Field15 refl
 
-end-gives : (first : ℕ) (ks : Keys) (s : List ℕ) (at : ℕ) → Only OfFields (outcome (end first ks s at))
+pub end-gives : (first : ℕ) (ks : Keys) (s : List ℕ) (at : ℕ) → Only OfFields (outcome (end first ks s at))
 unfolding end
 end-gives first ks s at =
     fielded-only OfFields first at (lmkField (drop at s)) _ (lmk-gives (drop at s))
     (λ own mark. fielded-only OfFields (first + 1) mark (trailer (drop mark s)) _ (trailer-gives (drop mark s))
     (λ _ past. closed-gives ks own first at s mark past))
 
--- the fields of BK are refused for nothing else
-pub fields-give : (restricted : Bool) (s : List ℕ) (at : ℕ) → Only OfFields (outcome (bkFields restricted s at))
-unfolding bkFields
+-- ---- BK
+
+-- the numbers of its fields
+abbrev pub fieldNumbers : List ℕ
+fieldNumbers = 3 ∷ sharedNumbers
+
+abbrev OfBk : Refusal → Type 0
+OfBk = In fieldNumbers
+
+-- they are refused for nothing else
+pub fields-give : (restricted : Bool) (s : List ℕ) (at : ℕ) → Only OfBk (outcome (bkFields restricted s at))
+unfolding bkFields every
 fields-give restricted s at =
-    onward-only OfFields (keys 1 pinKey pvk s at) _ (keys-give 1 pinKey pvk s at)
-    (λ ks at₄. onward-only OfFields (sealed 4 restricted s at₄) _ (sealed-gives 4 restricted s at₄)
-    (λ block at₆. onward-only OfFields (offsetting 6 s at₆) _ (offsetting-gives 6 s at₆)
-    (λ inputs at₁₀. onward-only OfFields (weak 10 weakMark s at₁₀) _ (listing-gives 10 weakMark s at₁₀)
-    (λ pins at₁₁. onward-only OfFields (end 11 ks s at₁₁) _ (end-gives 11 ks s at₁₁)
-    (λ mark past. done-only OfFields _)))))
+    onward-only OfBk (keys 1 pinKey pvk s at) _ (wider sharedNumbers fieldNumbers _ refl (keys-give 1 pinKey pvk s at))
+    (λ ks at₄. onward-only OfBk (sealed 4 restricted s at₄) _ (wider sharedNumbers fieldNumbers _ refl (sealed-gives 4 restricted s at₄))
+    (λ block at₆. onward-only OfBk (offsetting 6 s at₆) _ (wider sharedNumbers fieldNumbers _ refl (offsetting-gives 6 s at₆))
+    (λ inputs at₁₀. onward-only OfBk (weak 10 weakMark s at₁₀) _ (wider weakNumbers fieldNumbers _ refl (listing-gives 10 weakMark s at₁₀))
+    (λ pins at₁₁. onward-only OfBk (end 11 ks s at₁₁) _ (wider sharedNumbers fieldNumbers _ refl (end-gives 11 ks s at₁₁))
+    (λ mark past. done-only OfBk _)))))

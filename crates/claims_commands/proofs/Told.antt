@@ -15,23 +15,20 @@ use Rattle.settings.specs.declared.Settings.{Settings}
 use Rattle.offsettexts.specs.OffsetTexts.{offsetText}
 use Rattle.keybox.specs.KeyBox.{boxed}
 use Rattle.frame.specs.Frame.{opening}
-use Rattle.frame.specs.declared.Code.the-variants as code
-use Rattle.keyfields.specs.declared.Keys.{Keys}
-use Rattle.sealed.specs.declared.Sealed.{Sealed}
-use Rattle.fields.specs.Fields.{unpointed, heard}
-use Rattle.responses.specs.Responses.{offset, answerText, responding}
+use Rattle.frame.specs.declared.Code.{Code}
+use Rattle.responses.specs.Responses.{offset, payloadText, responding}
 use Rattle.bkfields.specs.BkFields.{bkFields}
 use Rattle.bkfinish.specs.BkFinish.{bkFinish}
 use Rattle.bk.specs.Bk.{bkAnswer}
-use Rattle.bkfields.specs.declared.Bk.{Bk}
 use Rattle.bk.proofs.Places.{answer-sound}
-use Rattle.commands.specs.Commands.{answerBy, answered}
-use Rattle.commands.proofs.Laws.{answered-framed}
+use Rattle.commands.specs.Commands.{answered}
 use Rattle.claims_numbers.proofs.Numbers.{number-once, never-00}
+use Rattle.claims_alike.specs.Alike.{Layout, fields, Outside}
 use Rattle.claims_alike.proofs.Alike as any
-use Rattle.claims_commands.specs.Runs.{Reaches}
+use Rattle.claims_commands.specs.Runs.{Reached, Reaches}
 use Rattle.claims_commands.specs.Claims.{ResponsesTell, saying, AnswersTell, AnswerAlike}
-use Rattle.claims_commands.proofs.Listing.{bkLayout}
+use Rattle.claims_commands.proofs.Shapes.{Shape, relaid, reached}
+use Rattle.claims_commands.proofs.Listing.{bkLayout, bkShape}
 use Rattle.claims_commands.proofs.Alike.{opening-alike}
 
 -- ---- texts
@@ -85,32 +82,6 @@ responses-tell A Fine text once header s t tail opened o o′ f f′ = (
   λ e. ap (λ (x : Outcome A). responding header s (andThen x (λ a. done (text a ++ tail)))) e ∙ response-same Fine text once header s t tail opened o′,
 )
 
--- ---- a run that is not refused before its block is looked at
-
-module _ (settings : Settings) (g h : Bool) (room : ℕ) (s block enciphered : List ℕ) (r : Reaches settings g h room s block enciphered) where
-  -- the finish of the run
-  abbrev pub finish : Outcome (List ℕ)
-  finish = bkFinish (settings .variable) s (r .fields) (r .rows)
-
-  -- what the command answers and what stands behind 00, as one step
-  behind : (o : Outcome (List ℕ)) (mark : ℕ)
-      → heard (andThen (andThen (unpointed (andThen o (λ ds. done (offset ds)))) (λ payload. done (payload, mark))) (λ answer. done (answerText s answer))) ≡ andThen o (λ ds. done (offsetText ds ++ drop mark s))
-  behind (done ds) mark = refl
-  behind (refused q) mark = refl
-
-  -- what it answers is the response to its finish, with its trailer
-  pub reached : answered settings g h s block enciphered room ≡ responding (settings .header) s (andThen finish (λ offset. done (offsetText offset ++ drop (r .fields .trailer) s)))
-  unfolding answerBy bkAnswer
-  reached =
-      answered-framed settings g h s block enciphered room (r .roomy) (r .framed)
-      ∙ rw (r .coded, r .read, r .boxed) (ap (responding (settings .header) s) (behind finish (r .fields .trailer)))
-
-  -- an offset that it comes to has digits
-  pub finish-digits : (ds : List ℕ) → finish ≡ done ds → Below 10 ds
-  unfolding bkAnswer
-  finish-digits ds e =
-      answer-sound settings g h s (settings .header + 2) block enciphered (offset ds, r .fields .trailer) (rw (r .read, r .boxed, e)) .payload .1
-
 -- ---- two runs
 
 -- of any command: their responses tell what their finishes came to
@@ -123,13 +94,37 @@ answers-tell n F X A S R B c finish Fine text trail once command box box′ head
     subst (λ (v : S). (saying c finish text trail header s (r .fields) (r .rows) ≡ responding header t (andThen o′ (λ x. done (text x ++ trail v)))) ↔ (o ≡ o′))
     (h .seen) (responses-tell B Fine text once header s t (trail (c .seen (r .fields) s)) opened o o′ f f′)
 
--- of BK
+-- of a command of the one shape, which lies around its PIN block and brings back what stands behind its mark: they answer alike exactly
+-- when their finishes do. For any property of what its finish comes to under which the text of what that brings settles it
+module _ {command : Code} {settings : Settings} {A B : Type 0} (c : Shape command settings A B)
+    {n : ℕ} {F X : Type 0} (l : Layout n F X A (List ℕ)) (same : (s : List ℕ) (at : ℕ) → fields l s at ≡ c .reader s at) (seen : (a : A) (s : List ℕ) → l .seen a s ≡ drop (c .mark a) s)
+    (Fine : B → Type 0) (once : (x y : B) → Fine x → Fine y → payloadText (c .payload x) ≡ payloadText (c .payload y) → x ≡ y) where
+  module _ (g h g′ h′ : Bool) (room room′ : ℕ) (s t block block′ enciphered enciphered′ : List ℕ)
+      (r : Reached command (c .reader) (boxed (length s) g h block enciphered) (settings .header) room s)
+      (r′ : Reached command (c .reader) (boxed (length t) g′ h′ block′ enciphered′) (settings .header) room′ t) where
+    pub shape-alike : Outside n (l .place (r .fields)) s t
+        → ((x : B) → c .finish s (r .fields) (r .rows) ≡ done x → Fine x) → ((x : B) → c .finish t (r′ .fields) (r′ .rows) ≡ done x → Fine x)
+        → (answered settings g h s block enciphered room ≡ answered settings g′ h′ t block′ enciphered′ room′)
+        ↔ (c .finish s (r .fields) (r .rows) ≡ c .finish t (r′ .fields) (r′ .rows))
+    shape-alike alike fine fine′ =
+        let header = settings .header in
+        let text : B → List ℕ = λ b. payloadText (c .payload b) in
+        let here = reached c g h room s block enciphered r ∙ ap (λ (tail : List ℕ). responding header s (andThen (c .finish s (r .fields) (r .rows)) (λ b. done (text b ++ tail)))) (sym (seen (r .fields) s)) in
+        let there = reached c g′ h′ room′ t block′ enciphered′ r′ ∙ ap (λ (tail : List ℕ). responding header t (andThen (c .finish t (r′ .fields) (r′ .rows)) (λ b. done (text b ++ tail)))) (sym (seen (r′ .fields) t)) in
+        let tell = answers-tell n F X A (List ℕ) (List ℕ × List ℕ) B l (c .finish) Fine text (λ x. x) once command _ _ header room room′ s t (relaid (same s (header + 2)) r) (relaid (same t (header + 2)) r′) alike fine fine′ in
+        (λ e. tell .0 (sym here ∙ e ∙ there), λ e. here ∙ tell .1 e ∙ sym there)
+
+-- ---- BK
+
+-- an offset that a run comes to has digits
+finish-digits : (settings : Settings) (g h : Bool) (room : ℕ) (s block enciphered : List ℕ) (r : Reaches settings g h room s block enciphered) (ds : List ℕ)
+    → bkFinish (settings .variable) s (r .fields) (r .rows) ≡ done ds → Below 10 ds
+unfolding bkAnswer
+finish-digits settings g h room s block enciphered r ds e =
+    answer-sound settings g h s (settings .header + 2) block enciphered (offset ds, r .fields .trailer) (rw (r .read, r .boxed, e)) .payload .1
+
 pub answer-alike : AnswerAlike
 unfolding bkFields
 answer-alike settings g h room room′ s t block block′ enciphered enciphered′ r r′ alike =
-    let here = reached settings g h room s block enciphered r in
-    let there = reached settings g h room′ t block′ enciphered′ r′ in
-    let fine = finish-digits settings g h room s block enciphered r in
-    let fine′ = finish-digits settings g h room′ t block′ enciphered′ r′ in
-    let tell = answers-tell 16 Keys Sealed Bk (List ℕ) (List ℕ × List ℕ) (List ℕ) (bkLayout (settings .restricted)) (bkFinish (settings .variable)) (Below 10) offsetText (λ x. x) text-once code.Bk (boxed (length s) g h block enciphered) (boxed (length t) g h block′ enciphered′) (settings .header) room room′ s t r r′ alike fine fine′ in
-    (λ e. tell .0 (sym here ∙ e ∙ there), λ e. here ∙ tell .1 e ∙ sym there)
+    shape-alike (bkShape settings) (bkLayout (settings .restricted)) (λ s at. refl) (λ p s. refl) (Below 10) text-once g h g h room room′ s t block block′ enciphered enciphered′ r r′ alike
+    (finish-digits settings g h room s block enciphered r) (finish-digits settings g h room′ t block′ enciphered′ r′)

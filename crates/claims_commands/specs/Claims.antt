@@ -13,6 +13,7 @@ use Rattle.settings.specs.declared.Settings.{Settings}
 use Rattle.ibm3624.specs.Ibm3624.{covers, offsetOf}
 use Rattle.frame.specs.Frame.{opening}
 use Rattle.frame.specs.declared.Code.{Code}
+use Rattle.frame.specs.declared.Code.the-variants as code
 use Rattle.fields.specs.Fields.{read, Ruling}
 use Rattle.weak.specs.Weak.{isOn, weakPins}
 use Rattle.bkfields.specs.BkFields.{bkFields}
@@ -22,7 +23,7 @@ use Rattle.responses.specs.Responses.{responding}
 use Rattle.commands.specs.Commands.{answered}
 use Rattle.claims_blocks.specs.Promises.{listed}
 use Rattle.claims_alike.specs.Alike.{Layout, fields, Outside}
-use Rattle.claims_commands.specs.Runs.{Reached, AlikeBut, Reaches, Reads}
+use Rattle.claims_commands.specs.Runs.{codeIn, Reached, AlikeBut, Reaches, Reads}
 
 -- commands that are both read, and are alike outside the block's characters, are read alike
 abbrev pub ReadAlike : Type 0
@@ -52,7 +53,7 @@ abbrev pub saying : {n : ℕ} {F X A S R B : Type 0} → Layout n F X A S → (L
 saying c finish text trail header s a rows = responding header s (andThen (finish s a rows) (λ b. done (text b ++ trail (c .seen a s))))
 
 -- so two runs of any command, alike outside the block's characters, say alike exactly when they finish alike. For any finish, any text
--- of what it comes to, and any trailer. That a command's answer is what is said here is each command's own law
+-- of what it comes to, and any trailer. That a command's answer is what is said here is proved over the shape of commands
 abbrev pub AnswersTell : Type 1
 AnswersTell = (n : ℕ) (F X A S R B : Type 0) (c : Layout n F X A S) (finish : List ℕ → A → R → Outcome B)
     (Fine : B → Type 0) (text : B → List ℕ) (trail : S → List ℕ) → ((x y : B) → Fine x → Fine y → text x ≡ text y → x ≡ y)
@@ -100,18 +101,19 @@ BytesTellDifferences = (settings : Settings) (g h : Bool) (room room′ : ℕ) (
     → Tells (settings .variable) s t (r .reaches .fields) (r′ .reaches .fields) (r .found) (r′ .found)
     (answered settings g h s block enciphered room .written ≡ answered settings g h t block′ enciphered′ room′ .written)
 
--- whom this covers: a run reads its PIN exactly when its answer is 00, 81 or 86
+-- whom this covers: a run of BK reads its PIN exactly when its answer is 00, 81 or 86
 abbrev pub readNumbers : List ℕ
 readNumbers = 0 ∷ 81 ∷ 86 ∷ []
 
 abbrev pub ReadsExactly : Type 0
-ReadsExactly = (settings : Settings) (g h : Bool) (room : ℕ) (s block enciphered : List ℕ)
+ReadsExactly = (settings : Settings) (g h : Bool) (room : ℕ) (s block enciphered : List ℕ) → codeIn settings s ≡ code.Bk
     → (listed (answered settings g h s block enciphered room .number) readNumbers ≡ true) ↔ Reads settings g h room s block enciphered
 
--- so of two returns of the answering call with these numbers, as its promise describes them: each has read its PIN, and the numbers and
--- the bytes that are counted agree exactly when the same is told
+-- so of two returns of the answering call to BKs with these numbers, as its promise describes them: each has read its PIN, and the
+-- numbers and the bytes that are counted agree exactly when the same is told
 abbrev pub ReturnsTellDifferences : Type 0
 ReturnsTellDifferences = (settings : Settings) (g h : Bool) (s t block block′ enciphered enciphered′ before before′ after after′ : List ℕ) (reply reply′ : Reply)
+    → codeIn settings s ≡ code.Bk → codeIn settings t ≡ code.Bk
     → Does (answered settings g h s block enciphered (length before)) before reply after
     → Does (answered settings g h t block′ enciphered′ (length before′)) before′ reply′ after′
     → listed (reply .number) readNumbers ≡ true → listed (reply′ .number) readNumbers ≡ true

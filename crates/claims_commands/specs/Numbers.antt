@@ -6,39 +6,53 @@ use mathlib.Core.Bool.{Bool, true, false}
 use lib.ListN.{length}
 use Rattle.numbers.specs.Promise.{Said, quietly}
 use Rattle.settings.specs.declared.Settings.{Settings}
+use Rattle.frame.specs.declared.Code.{Code}
+use Rattle.frame.specs.declared.Code.the-variants.{Bk, Other}
 use Rattle.commands.specs.Commands.{asked, answered}
 use Rattle.claims_blocks.specs.Promises.{listed}
+use Rattle.claims_commands.specs.Runs.{codeIn}
 
--- the fields' numbers, and those before them
-abbrev pub askNumbers : List ℕ
-askNumbers = 0 ∷ 3 ∷ 15 ∷ 23 ∷ 25 ∷ 26 ∷ 29 ∷ 68 ∷ 69 ∷ 901 ∷ 902 ∷ []
+-- behind the frame, by the command's code: the fields' numbers
+abbrev pub askNumbers : Code → List ℕ
+askNumbers Bk = 0 ∷ 3 ∷ 15 ∷ 23 ∷ 25 ∷ 26 ∷ 29 ∷ 69 ∷ []
+askNumbers Other = 68 ∷ []
 
--- the same, parity, block, check length and weak list; no verdict
-abbrev pub answerNumbers : List ℕ
-answerNumbers = 0 ∷ 3 ∷ 10 ∷ 11 ∷ 15 ∷ 20 ∷ 23 ∷ 24 ∷ 25 ∷ 26 ∷ 29 ∷ 68 ∷ 69 ∷ 81 ∷ 86 ∷ 901 ∷ 902 ∷ []
+-- the same, parity and block; of BK check length and weak list, and no verdict
+abbrev pub answerNumbers : Code → List ℕ
+answerNumbers Bk = 0 ∷ 3 ∷ 10 ∷ 11 ∷ 15 ∷ 20 ∷ 23 ∷ 24 ∷ 25 ∷ 26 ∷ 29 ∷ 69 ∷ 81 ∷ 86 ∷ []
+answerNumbers Other = 68 ∷ []
+
+-- 901 and 902 come before any code
+abbrev pub Numbered : List ℕ → Said ℕ → Type 0
+Numbered numbers said = listed (said .number) (901 ∷ 902 ∷ numbers) ≡ true
 
 -- the asking call writes a block of eight bytes with 00, and nothing otherwise
 abbrev pub AskCounts : Said ℕ → Type 0
 AskCounts said = (said .number ≡ 0 → length (said .written) ≡ 8) × ((said .number ≡ 0 → ⊥) → said .written ≡ [])
 
--- "901 and 902 write nothing. Any other refusal by the answering call writes header, response code and two-digit number"; 00 is
--- followed by twelve characters of offset and at most 33 bytes of trailer with its mark
-abbrev pub AnswerCounts : ℕ → Said ℕ → Type 0
-AnswerCounts header said =
+-- how many bytes go with 00, by the command's code: header, response code and number, what the command brings, and at most 33 bytes
+-- of trailer with its mark. BK brings twelve characters of offset; another code has no 00
+abbrev pub DoneCount : Code → ℕ → ℕ → Type 0
+DoneCount Bk header n = (header + 16 ≤ n) × (n ≤ header + 49)
+DoneCount Other header n = ⊥
+
+-- "901 and 902 write nothing. Any other refusal by the answering call writes header, response code and two-digit number"
+abbrev pub AnswerCounts : Code → ℕ → Said ℕ → Type 0
+AnswerCounts code header said =
     (listed (said .number) (901 ∷ 902 ∷ []) ≡ true → said .written ≡ [])
-    × (said .number ≡ 0 → (header + 16 ≤ length (said .written)) × (length (said .written) ≤ header + 49))
+    × (said .number ≡ 0 → DoneCount code header (length (said .written)))
     × (listed (said .number) (0 ∷ 901 ∷ 902 ∷ []) ≡ false → length (said .written) ≡ header + 4)
 
 abbrev pub AskNumbers : Type 0
 AskNumbers = (settings : Settings) (s : List ℕ) (room : ℕ)
-    → (listed (quietly (asked settings s room) .number) askNumbers ≡ true) × AskCounts (quietly (asked settings s room))
+    → Numbered (askNumbers (codeIn settings s)) (quietly (asked settings s room)) × AskCounts (quietly (asked settings s room))
 
 abbrev pub AnswerNumbers : Type 0
 AnswerNumbers = (settings : Settings) (pinKeyGood pvkGood : Bool) (s block enciphered : List ℕ) (room : ℕ)
-    → (listed (answered settings pinKeyGood pvkGood s block enciphered room .number) answerNumbers ≡ true)
-    × AnswerCounts (settings .header) (answered settings pinKeyGood pvkGood s block enciphered room)
+    → Numbered (answerNumbers (codeIn settings s)) (answered settings pinKeyGood pvkGood s block enciphered room)
+    × AnswerCounts (codeIn settings s) (settings .header) (answered settings pinKeyGood pvkGood s block enciphered room)
 
--- "for an offset to be made 81 never arises" where the offset has variable length
+-- "for an offset to be made 81 never arises" where the offset has variable length: BK makes one
 abbrev pub VariableNever81 : Type 0
-VariableNever81 = (settings : Settings) (pinKeyGood pvkGood : Bool) (s block enciphered : List ℕ) (room : ℕ) → settings .variable ≡ true
+VariableNever81 = (settings : Settings) (pinKeyGood pvkGood : Bool) (s block enciphered : List ℕ) (room : ℕ) → settings .variable ≡ true → codeIn settings s ≡ Bk
     → answered settings pinKeyGood pvkGood s block enciphered room .number ≡ 81 → ⊥

@@ -19,6 +19,10 @@ use Rattle.claims_alike.specs.Alike.{Outside}
 
 -- ---- of any command
 
+-- its code, which stands behind the header
+abbrev pub codeIn : Settings → List ℕ → Code
+codeIn settings s = codeOf (drop (settings .header) s)
+
 -- a run that is not refused before its block is looked at: there is room, the command has a frame, this code and fields that are read,
 -- and what the key box answered is taken
 pub record Reached {A R : Type 0} (command : Code) (reader : List ℕ → ℕ → field.Stage A) (box : field.Ruling R) (header room : ℕ) (s : List ℕ) : Type 0 where

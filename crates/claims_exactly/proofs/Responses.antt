@@ -29,7 +29,8 @@ use Rattle.commands.proofs.Laws.{asked-902, asked-framed, answered-902, answere
 use Rattle.texts.specs.Characters.{printed}
 use Rattle.texts_data.specs.DataTexts.{weakPinsOf}
 use Rattle.claims_blocks.specs.Promises.{listed}
-use Rattle.claims_commands.proofs.Numbers.{listed-passes, answer-numbers}
+use Rattle.claims_commands.proofs.Fields.{listed-passes}
+use Rattle.claims_commands.proofs.Numbers.{answer-numbers}
 use Rattle.claims_exactly.specs.Sent.{HasFrame}
 use Rattle.claims_exactly.specs.Responses.{PapersBk, accountDigits, AskedExactly, finishOf, Holds, AnsweredExactly, NeverPastTheFields, FramedExactly}
 use Rattle.claims_exactly.proofs.Sent.{has-frame, is-framed}

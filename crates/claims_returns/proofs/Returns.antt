@@ -9,18 +9,20 @@ use Rattle.numbers.specs.Numbers.{done, refused, andThen}
 use Rattle.numbers.specs.Promise.{Does}
 use Rattle.numbers.specs.declared.Reply.{Reply}
 use Rattle.settings.specs.declared.Settings.{Settings}
+use Rattle.frame.specs.declared.Code.the-variants.{Bk}
 use Rattle.fields.specs.Fields.{Ruling, pointing, unpointed}
 use Rattle.keybox.specs.KeyBox.{slices, parities, boxed}
 use Rattle.commands.specs.Commands.{answered}
 use Rattle.claims_blocks.specs.Promises.{listed}
-use Rattle.claims_commands.specs.Runs.{Reads}
+use Rattle.claims_commands.specs.Runs.{codeIn, Reads}
 use Rattle.claims_commands.specs.Claims.{Tells, readNumbers}
 use Rattle.claims_commands.proofs.PinsRead.{reads-exactly, returns-tell-differences}
-use Rattle.claims_returns.specs.Returns.{Return, Answers, AllowedReturnsTellDifferences, settings, pinKeyGood, pvkGood, command, block, enciphered, before, after}
+use Rattle.claims_returns.specs.Returns.{Return, IsBk, Answers, AllowedReturnsTellDifferences, settings, pinKeyGood, pvkGood, command, block, enciphered, before, after}
 
 -- two returns, each under settings and parities of its own
 abbrev Told : Settings → Bool → Bool → Settings → Bool → Bool → Type 0
 Told x g h x′ g′ h′ = (s t block block′ enciphered enciphered′ before before′ after after′ : List ℕ) (reply reply′ : Reply)
+    → codeIn x s ≡ Bk → codeIn x′ t ≡ Bk
     → Does (answered x g h s block enciphered (length before)) before reply after
     → Does (answered x′ g′ h′ t block′ enciphered′ (length before′)) before′ reply′ after′
     → listed (reply .number) readNumbers ≡ true → listed (reply′ .number) readNumbers ≡ true
@@ -46,13 +48,13 @@ boxed-good : (end : ℕ) (g h : Bool) (block enciphered : List ℕ) (rows : List
 unfolding boxed
 boxed-good end g h block enciphered rows e = judged-good (pointing 0 end (slices block enciphered)) g h rows e
 
-good : (a : Return) → Answers a → (pinKeyGood a ≡ true) × (pvkGood a ≡ true)
-good a e =
-    let r = reads-exactly (settings a) (pinKeyGood a) (pvkGood a) (length (before a)) (command a) (block a) (enciphered a) .0
+good : (a : Return) → IsBk a → Answers a → (pinKeyGood a ≡ true) × (pvkGood a ≡ true)
+good a coded e =
+    let r = reads-exactly (settings a) (pinKeyGood a) (pvkGood a) (length (before a)) (command a) (block a) (enciphered a) coded .0
     (subst (λ (n : ℕ). listed n readNumbers ≡ true) (a .allowed .number) e) in
     boxed-good (length (command a)) (pinKeyGood a) (pvkGood a) (block a) (enciphered a) (r .reaches .rows) (r .reaches .boxed)
 
 pub allowed-returns-tell-differences : AllowedReturnsTellDifferences
-allowed-returns-tell-differences a b p e e′ =
-    told (settings a) (settings b) (pinKeyGood a) (pinKeyGood b) (pvkGood a) (pvkGood b) p (good a e .0 ∙ sym (good b e′ .0)) (good a e .1 ∙ sym (good b e′ .1))
-    (command a) (command b) (block a) (block b) (enciphered a) (enciphered b) (before a) (before b) (after a) (after b) (a .reply) (b .reply) (a .allowed) (b .allowed) e e′
+allowed-returns-tell-differences a b p coded coded′ e e′ =
+    told (settings a) (settings b) (pinKeyGood a) (pinKeyGood b) (pvkGood a) (pvkGood b) p (good a coded e .0 ∙ sym (good b coded′ e′ .0)) (good a coded e .1 ∙ sym (good b coded′ e′ .1))
+    (command a) (command b) (block a) (block b) (enciphered a) (enciphered b) (before a) (before b) (after a) (after b) (a .reply) (b .reply) coded coded′ (a .allowed) (b .allowed) e e′

@@ -9,10 +9,11 @@ use denote.Triple.Entry.{Args, Res}
 use denote.Triple.Clauses.{Lasts, atExit}
 use lib.ListN.{length, take}
 use Rattle.settings.specs.declared.Settings.{Settings}
+use Rattle.frame.specs.declared.Code.the-variants.{Bk}
 use Rattle.face.specs.Face.{settingsOf, yes?}
 use Rattle.quillgimlet.proofs as Face
 use Rattle.claims_blocks.specs.Promises.{listed}
-use Rattle.claims_commands.specs.Runs.{Reads}
+use Rattle.claims_commands.specs.Runs.{codeIn, Reads}
 use Rattle.claims_commands.specs.Claims.{Tells, readNumbers}
 
 -- a return of `qg_answer` that its contract allows: the arguments, the answer, and what each lent buffer holds at exit
@@ -52,6 +53,10 @@ after a = a .ends .1 .1 .1 .1 .1 .1 .0
 
 -- ---- what is claimed
 
+-- the command is a BK
+abbrev pub IsBk : Return → Type 0
+IsBk a = codeIn (settings a) (command a) ≡ Bk
+
 -- 00, 81 or 86
 abbrev pub Answers : Return → Type 0
 Answers a = listed (a .reply .number) readNumbers ≡ true
@@ -64,9 +69,9 @@ ReadsPin a = Reads (settings a) (pinKeyGood a) (pvkGood a) (length (before a)) (
 abbrev pub Agree : Return → Return → Type 0
 Agree a b = (a .reply .number ≡ b .reply .number) × (take (a .reply .written) (after a) ≡ take (b .reply .written) (after b))
 
--- any two returns of the call with 00, 81 or 86, under the same settings, have each read their PIN, and agree exactly when the same is
--- told of their PINs. With these numbers the parities are good
+-- any two returns of the call to BKs with 00, 81 or 86, under the same settings, have each read their PIN, and agree exactly when the
+-- same is told of their PINs. With these numbers the parities are good
 abbrev pub AllowedReturnsTellDifferences : Type 0
-AllowedReturnsTellDifferences = (a b : Return) → settings a ≡ settings b → Answers a → Answers b
+AllowedReturnsTellDifferences = (a b : Return) → settings a ≡ settings b → IsBk a → IsBk b → Answers a → Answers b
     → (r : ReadsPin a) × (r′ : ReadsPin b)
     × Tells (settings a .variable) (command a) (command b) (r .reaches .fields) (r′ .reaches .fields) (r .found) (r′ .found) (Agree a b)
