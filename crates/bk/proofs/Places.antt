@@ -13,6 +13,7 @@ use Rattle.answers.proofs.Laws.{Sixteen, sixteen-bytes}
 use Rattle.keybox.specs.KeyBox.{boxed}
 use Rattle.keybox.proofs.Laws.{boxed-sixteen}
 use Rattle.fields.specs.Fields.{ruled, unpointed}
+use Rattle.fields.proofs.Reading.{ruled-read}
 use Rattle.fields.proofs.Rulings.{pointing-done}
 use Rattle.responses.specs.Responses.{Payload, offset}
 use Rattle.responses.proofs.Laws.{Fine, Sound}
@@ -21,7 +22,7 @@ use Rattle.pairing.proofs.Laws as pairing
 use Rattle.bkfields.specs.BkFields.{bkFields}
 use Rattle.bk.specs.Bk.{bkAsk, bkAnswer}
 use Rattle.bkfinish.specs.BkFinish.{bkFinish}
-use Rattle.bkfields.proofs.Places.{placed, ruled-read}
+use Rattle.bkfields.proofs.Places.{placed}
 use Rattle.bkfinish.proofs.Places.{finish-within}
 
 -- ---- the asking call

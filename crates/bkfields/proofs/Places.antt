@@ -1,13 +1,10 @@
 -- What a command that was read holds: its places lie in it.
 -- Assumes nothing.
 use Prim.Native.Nat.{ℕ}
-use native.Mathlib.Omega.{arith}
-use mathlib.Core.Path.{_≡_, ap, subst}
+use mathlib.Core.Path.{_≡_, subst}
 use mathlib.Core.List.{List}
 use mathlib.Core.Bool.{Bool}
-use Rattle.numbers.specs.Numbers.{done}
-use Rattle.numbers.proofs.Laws.{value-of}
-use Rattle.fields.specs.Fields.{Stage, read, faulty, ruled}
+use Rattle.fields.specs.Fields.{read}
 use Rattle.fields.proofs.Reading.{onward-read, read-once}
 use Rattle.uses.specs.Uses.{pinKey, pvk}
 use Rattle.weak.specs.declared.Weak.{Weak}
@@ -22,6 +19,7 @@ use Rattle.offsetting.proofs.Laws.{offsetting-held}
 use Rattle.weaklist.proofs.Laws.{weak-held}
 use Rattle.endings.specs.Endings.{end}
 use Rattle.endings.proofs.Laws.{end-held}
+use Rattle.pairing.proofs.Laws.{held-placed}
 use Rattle.bkfields.specs.BkFields.{weakMark, bkFields}
 use Rattle.bkfields.specs.Answers.{Placed}
 use Rattle.bkfields.specs.declared.Bk.{Bk}
@@ -38,7 +36,7 @@ laid s ks block inputs pins mark at₆ at₁₀ at₁₁ past e₆ e₁₀ e₁�
     let listed = weak-held 10 weakMark s at₁₀ pins at₁₁ e₁₀ (held .onward) in
     let ended = end-held 11 ks s at₁₁ mark past e₁₁ (listed .1) in
     record {
-      offsetting = record { account = held .account; number = held .number; table = held .table; digits = held .digits; validation = held .validation; shape = held .shape; check = held .check };
+      offsetting = held-placed s inputs at₁₀ held;
       weak = listed .0;
       trailer = ended .0;
       tail = ended .1;
@@ -55,8 +53,3 @@ placed restricted s at p past e =
     let o₁₁ = onward-read (end 11 (o₁ .0) s (o₁₀ .1)) _ p past (o₁₀ .3) in
     subst (Placed s) (read-once (o₁₁ .3) .0)
     (laid s (o₁ .0) (o₄ .0) (o₆ .0) (o₁₀ .0) (o₁₁ .0) (o₄ .1) (o₆ .1) (o₁₀ .1) (o₁₁ .1) (o₆ .2) (o₁₀ .2) (o₁₁ .2))
-
--- a stage that was read
-pub ruled-read : {A : Type 0} (stage : Stage A) (a : A) → ruled stage ≡ done a → (past : ℕ) × (stage ≡ read a past)
-ruled-read (read b past) a e = (past, ap (λ (x : _). read x past) (value-of e))
-ruled-read (faulty f) a e = absurd (let z : _≡_ {A = ℕ} 0 1 = cc in omega arith)

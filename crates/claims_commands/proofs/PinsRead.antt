@@ -22,9 +22,9 @@ use Rattle.responses.specs.Responses.{Payload, answerText, responding}
 use Rattle.frame.specs.Frame.{isFramed}
 use Rattle.frame.specs.declared.Code.{Code}
 use Rattle.fields.specs.Fields.{Ruling, ruled, unpointed, heard, outcome}
+use Rattle.fields.proofs.Reading.{ruled-read}
 use Rattle.fields.proofs.Rulings.{heard-then, heard-pointing}
 use Rattle.bkfinish.specs.BkFinish.{bkFinish}
-use Rattle.bkfields.proofs.Places.{ruled-read}
 use Rattle.commands.specs.Commands.{answerBy, answered}
 use Rattle.commands.proofs.Laws.{answered-901, answered-902, answered-framed}
 use Rattle.claims_blocks.specs.Promises.{listed}

@@ -12,7 +12,7 @@ use Rattle.alphabet.specs.declared.Class.the-variants.{Printable}
 use Rattle.numbers.specs.Numbers.{done, refused}
 use Rattle.numbers.specs.declared.Refusal.the-variants.{Field15}
 use Rattle.numbers.proofs.Laws.{value-of}
-use Rattle.fields.specs.Fields.{Found, Stage, read, faulty, field, fielded, onward, run, marked, behind, trailer, atMost}
+use Rattle.fields.specs.Fields.{Found, Stage, read, faulty, field, fielded, onward, ruled, run, marked, behind, trailer, atMost}
 use Rattle.fields.proofs.Laws.{run-found}
 
 -- what was found behind a character was found before it
@@ -34,6 +34,11 @@ field-read k reader s at next b past e = fielded-read k at (reader (drop at s)) 
 pub onward-read : {A B : Type 0} (stage : Stage A) (next : A → ℕ → Stage B) (b : B) (past : ℕ) → onward stage next ≡ read b past → (a : A) × (at : ℕ) × (stage ≡ read a at) × (next a at ≡ read b past)
 onward-read (read a at) next b past e = (a, at, refl, e)
 onward-read (faulty f) next b past e = absurd (let z : _≡_ {A = ℕ} 0 1 = cc in omega arith)
+
+-- what was ruled was read
+pub ruled-read : {A : Type 0} (stage : Stage A) (a : A) → ruled stage ≡ done a → (past : ℕ) × (stage ≡ read a past)
+ruled-read (read b past) a e = (past, ap (λ (x : _). read x past) (value-of e))
+ruled-read (faulty f) a e = absurd (let z : _≡_ {A = ℕ} 0 1 = cc in omega arith)
 
 pub read-once : {A : Type 0} {a b : A} {m n : ℕ} → read a m ≡ read b n → (a ≡ b) × (m ≡ n)
 read-once e = (cc, cc)

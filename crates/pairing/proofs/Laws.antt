@@ -30,13 +30,18 @@ use Rattle.keybox.specs.declared.Boxed.{Boxed}
 use Rattle.offsetting.specs.Offsetting.{part, accountIn, tableIn, validationIn}
 use Rattle.sealed.specs.declared.Sealed.{Sealed}
 use Rattle.offsetting.specs.declared.Offsetting.{Offsetting}
-use Rattle.offsetting.proofs.Laws.{values-length, values-below, values-row}
+use Rattle.offsetting.proofs.Laws.{Held, values-length, values-below, values-row}
 use Rattle.pairing.specs.Pairing.{askedAt, pairAt}
 use Rattle.pairing.specs.Answers.{Placed, boxRows}
 
 -- as many characters as were cut out
 pub cut : (from n m : ℕ) → m ≡ n → from + m - from ≡ n
 cut from n m e = omega arith
+
+-- places that the stage read are such as are asked for
+pub held-placed : (s : List ℕ) (o : Offsetting) (next : ℕ) → Held s o next → Placed s o
+held-placed s o next held =
+    record { account = held .account; number = held .number; table = held .table; digits = held .digits; validation = held .validation; shape = held .shape; check = held .check }
 
 module _ (s : List ℕ) (o : Offsetting) (placed : Placed s o) where
   -- ---- what stands at the places
