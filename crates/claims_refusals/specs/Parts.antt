@@ -72,17 +72,17 @@ longer =
 abbrev pub header7F : List ℕ
 header7F = 0x48 ∷ 0x44 ∷ 0x52 ∷ 0x7F ∷ 0x42 ∷ 0x4B ∷ []
 
--- 1F, and a code that is not BK
+-- 1F, and a code that is no command's here
 abbrev pub header1F : List ℕ
-header1F = 0x1F ∷ 0x44 ∷ 0x52 ∷ 0x31 ∷ 0x44 ∷ 0x41 ∷ []
+header1F = 0x1F ∷ 0x44 ∷ 0x52 ∷ 0x31 ∷ 0x4E ∷ 0x43 ∷ []
 
 -- "under header + 2": `HDR1B`
 abbrev pub hdr1b : List ℕ
 hdr1b = 0x48 ∷ 0x44 ∷ 0x52 ∷ 0x31 ∷ 0x42 ∷ []
 
--- "command code other than BK": `HDR1DA`
-abbrev pub hdr1da : List ℕ
-hdr1da = 0x48 ∷ 0x44 ∷ 0x52 ∷ 0x31 ∷ 0x44 ∷ 0x41 ∷ []
+-- "command code other than BK": `HDR1NC`
+abbrev pub hdr1nc : List ℕ
+hdr1nc = 0x48 ∷ 0x44 ∷ 0x52 ∷ 0x31 ∷ 0x4E ∷ 0x43 ∷ []
 
 -- 1. "001, 002 or FFF": `003`
 abbrev pub type003 : List ℕ

@@ -16,7 +16,7 @@ use Rattle.claims_offsets.specs.Figures.{blockP2, encipheredP9}
 use Rattle.claims_figures.specs.Figures.{says}
 use Rattle.claims_commands.specs.Witnesses.{oneListed}
 use Rattle.claims_commands.specs.Cores.{blockP12, paperResponse}
-use Rattle.claims_refusals.specs.Parts.{but, exchange, longer, format05, pvkBlock, trailerEND, header7F, header1F, hdr1b, hdr1da, type003, keyX, pinKeyBlock2, pinKeyBlockE, pvkBlockB, pinKeyBlockV1, smallHex, format0A, format99, format41, check13, check06, accountA, tableA, shortTableA, validationNN, countA, threeListed, shortList, id10, id01, trailer33, leftX}
+use Rattle.claims_refusals.specs.Parts.{but, exchange, longer, format05, pvkBlock, trailerEND, header7F, header1F, hdr1b, hdr1nc, type003, keyX, pinKeyBlock2, pinKeyBlockE, pvkBlockB, pinKeyBlockV1, smallHex, format0A, format99, format41, check13, check06, accountA, tableA, shortTableA, validationNN, countA, threeListed, shortList, id10, id01, trailer33, leftX}
 
 -- ---- what the key box answered
 
@@ -90,8 +90,8 @@ RefusedCommands =
     × Silent (headed usually 17) 8 65 exchange 902
     × Silent usually 8 65 (but 0 header7F exchange) 902
     × Silent usually 8 65 (hdr1b ∷ []) 902
-    -- 68, with a response code of its own: `HDR1DB68`
-    × BothRefuse (but 0 hdr1da exchange) 68 (0x48 ∷ 0x44 ∷ 0x52 ∷ 0x31 ∷ 0x44 ∷ 0x42 ∷ 0x36 ∷ 0x38 ∷ [])
+    -- 68, with a response code of its own: `HDR1ND68`
+    × BothRefuse (but 0 hdr1nc exchange) 68 (0x48 ∷ 0x44 ∷ 0x52 ∷ 0x31 ∷ 0x4E ∷ 0x44 ∷ 0x36 ∷ 0x38 ∷ [])
     -- the fields, one after the other
     × BothRefuse (but 1 type003 exchange) 15 (hdr1bl 0x31 0x35)
     × BothRefuse (but 2 keyX exchange) 26 (hdr1bl 0x32 0x36)
@@ -133,7 +133,7 @@ RefusedCommands =
     -- "The order is 901, 902, 68, then the fields from the left, the first fault deciding"
     × Silent usually 7 64 (but 0 header7F exchange) 901
     × Silent usually 8 65 (but 0 header1F exchange) 902
-    × BothRefuse (but 0 hdr1da (but 1 type003 exchange)) 68 (0x48 ∷ 0x44 ∷ 0x52 ∷ 0x31 ∷ 0x44 ∷ 0x42 ∷ 0x36 ∷ 0x38 ∷ [])
+    × BothRefuse (but 0 hdr1nc (but 1 type003 exchange)) 68 (0x48 ∷ 0x44 ∷ 0x52 ∷ 0x31 ∷ 0x4E ∷ 0x44 ∷ 0x36 ∷ 0x38 ∷ [])
     × BothRefuse (but 1 type003 (but 2 keyX exchange)) 15 (hdr1bl 0x31 0x35)
     × BothRefuse (but 2 pinKeyBlockE (but 3 keyX longer)) 29 (hdr1bl 0x32 0x39)
     × BothRefuse (but 2 pinKeyBlockV1 longer) 29 (hdr1bl 0x32 0x39)
