@@ -38,7 +38,7 @@ use Rattle.responses.specs.Responses.{responding}
 use Rattle.offsetting.proofs.Laws.{offsetting-held}
 use Rattle.formatfield.specs.FormatField.{formatField}
 use Rattle.validationfield.specs.ValidationField.{validationField}
-use Rattle.keyfields.specs.KeyFields.{keys}
+use Rattle.keyfields.specs.KeyFields.{keyPair, keys}
 use Rattle.sealed.specs.Sealed.{sealed}
 use Rattle.offsetting.specs.Offsetting.{offsetting, accountIn, validationIn}
 use Rattle.weaklist.specs.WeakList.{weak}
@@ -101,7 +101,7 @@ answer-room settings g h s block enciphered room k = rw (le-leb 65 room k)
 
 -- computed: the block of each account
 asks-said : (before : List ℕ) → 8 ≤ length before → (asks usualAccount before ≡ blockWith 0x56) × (asks otherAccount before ≡ blockWith 0x57)
-unfolding packs leading allOf begins valueOf codeOf isFramed run number trailer keyType hexKey lettered key lmkField weakField keys formatField sealed shapeOf validationField offsetting weak end bkFields
+unfolding packs leading allOf begins valueOf codeOf isFramed run number trailer keyType hexKey lettered key lmkField weakField keyPair keys formatField sealed shapeOf validationField offsetting weak end bkFields
     validationRow bkAsk askBy asking
 asks-said before h =
     (ap quietly (ask-room usually (commandOf usualAccount) (length before) h) ∙ refl, ap quietly (ask-room usually (commandOf otherAccount) (length before) h) ∙ refl)
@@ -109,7 +109,7 @@ asks-said before h =
 -- computed: the response for each enciphered block. Of zeros the natural PIN is zeros, so the offset is the PIN's last digits
 answers-said : (before : List ℕ) → 65 ≤ length before
     → (answers encipheredP9 before ≡ response (0x39 ∷ 0x32 ∷ 0x34 ∷ 0x37 ∷ [])) × (answers encipheredZeros before ≡ response (0x34 ∷ 0x35 ∷ 0x36 ∷ 0x37 ∷ []))
-unfolding nibs xors every leading same allOf begins valueOf codeOf isFramed opening run number trailer keyType hexKey lettered key lmkField weakField entries isOn keys formatField sealed
+unfolding nibs xors every leading same allOf begins valueOf codeOf isFramed opening run number trailer keyType hexKey lettered key lmkField weakField entries isOn keyPair keys formatField sealed
     shapeOf validationField offsetting weak end slices parities boxed bkFields contents readRow pinWithNatural differences bkFinish bkAnswer answerBy answered
 answers-said before h = (
   answer-room usually true true (commandOf usualAccount) blockP2 encipheredP9 (length before) h ∙ refl,

@@ -34,7 +34,7 @@ use Rattle.weakfield.specs.WeakField.{noneAt, weakField}
 use Rattle.weakfield.specs.WeakField as list
 use Rattle.formatfield.specs.FormatField.{allows, formatField}
 use Rattle.validationfield.specs.ValidationField.{validationField}
-use Rattle.keyfields.specs.KeyFields.{keys}
+use Rattle.keyfields.specs.KeyFields.{keyPair, keys}
 use Rattle.sealed.specs.Sealed.{sealed}
 use Rattle.offsetting.specs.Offsetting.{offsetting}
 use Rattle.weaklist.specs.WeakList.{weak}
@@ -234,13 +234,18 @@ trailer-gives cs =
 
 -- ---- the stages
 
+pub pair-gives : (first : ℕ) (letters₁ : Letters) (use₁ : Use) (letters₂ : Letters) (use₂ : Use) (s : List ℕ) (at : ℕ) → Only OfFields (outcome (keyPair first letters₁ use₁ letters₂ use₂ s at))
+unfolding keyPair
+pair-gives first letters₁ use₁ letters₂ use₂ s at =
+    fielded-only OfFields first at (key letters₁ use₁ (drop at s)) _ (key-gives letters₁ use₁ (drop at s))
+    (λ lmk₁ at₂. fielded-only OfFields (first + 1) at₂ (key letters₂ use₂ (drop at₂ s)) _ (key-gives letters₂ use₂ (drop at₂ s))
+    (λ lmk₂ next. done-only OfFields _))
+
 pub keys-give : (first : ℕ) (use₁ use₂ : Use) (s : List ℕ) (at : ℕ) → Only OfFields (outcome (keys first use₁ use₂ s at))
 unfolding keys
 keys-give first use₁ use₂ s at =
     fielded-only OfFields first at (keyType (drop at s)) _ (type-gives (drop at s))
-    (λ letters at₂. fielded-only OfFields (first + 1) at₂ (key letters use₁ (drop at₂ s)) _ (key-gives letters use₁ (drop at₂ s))
-    (λ lmk₁ at₃. fielded-only OfFields (first + 2) at₃ (key letters use₂ (drop at₃ s)) _ (key-gives letters use₂ (drop at₃ s))
-    (λ lmk₂ next. done-only OfFields _)))
+    (λ letters at₂. pair-gives (first + 1) letters use₁ letters use₂ s at₂)
 
 pub sealed-gives : (first : ℕ) (restricted : Bool) (s : List ℕ) (at : ℕ) → Only OfFields (outcome (sealed first restricted s at))
 unfolding sealed

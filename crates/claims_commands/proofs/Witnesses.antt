@@ -32,7 +32,7 @@ use Rattle.validation.specs.Validation.{shapeOf}
 use Rattle.validation.specs.declared.Shape.the-variants.{Template}
 use Rattle.formatfield.specs.FormatField.{formatField}
 use Rattle.validationfield.specs.ValidationField.{validationField}
-use Rattle.keyfields.specs.KeyFields.{keys}
+use Rattle.keyfields.specs.KeyFields.{keyPair, keys}
 use Rattle.sealed.specs.Sealed.{sealed}
 use Rattle.offsetting.specs.Offsetting.{offsetting, accountIn, tableIn}
 use Rattle.weaklist.specs.WeakList.{weak}
@@ -125,7 +125,7 @@ differ : (pin pin′ : List ℕ) → getD pin 4 0 ≡ 7 → getD pin′ 4 0 ≡ 
 differ pin pin′ h k e = omega (arith, ap (λ (ds : List ℕ). getD ds 4 0) e)
 
 pub assumptions-met : AssumptionsMet
-unfolding nibs xors every leading same allOf begins valueOf codes.codeOf contents readRow differences pinWithNatural isFramed opening run number trailer keyType hexKey lettered key lmkField listed weakField entries isOn keys formatField sealed shapeOf validationField offsetting weak end slices parities boxed bkFields bkFinish bkAnswer answerBy answered reading meets
+unfolding nibs xors every leading same allOf begins valueOf codes.codeOf contents readRow differences pinWithNatural isFramed opening run number trailer keyType hexKey lettered key lmkField listed weakField entries isOn keyPair keys formatField sealed shapeOf validationField offsetting weak end slices parities boxed bkFields bkFinish bkAnswer answerBy answered reading meets
 assumptions-met = (
   (
     meets usually 4 [] none runP9 runP10 pinP9 pinP10 (refl, refl, refl, refl, refl) (refl, refl, refl, refl, refl) (refl, refl, refl, refl) (differ (pinP9 .0) (pinP10 .0) refl refl),

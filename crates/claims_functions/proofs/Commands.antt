@@ -84,6 +84,7 @@ validation-field-once = record { validation-field = λ κs a r r′ ends ends′
 pub key-fields-once : KeyFieldsSettled
 key-fields-once = record {
   KeysRead·fault = λ κs a r r′ ends ends′. settled;
+  read-pair = λ κs a r r′ ends ends′. settled;
   read-keys = λ κs a r r′ ends ends′. settled;
 }
 

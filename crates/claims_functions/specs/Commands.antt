@@ -103,6 +103,7 @@ pub record ValidationFieldSettled : Type 0 where
 -- every public function of keyfields
 pub record KeyFieldsSettled : Type 0 where
   pub KeysRead·fault : Settled KeyFields.KeysRead.fault.ended KeyFields.KeysRead.fault.Reads.Learnt
+  pub read-pair : Settled KeyFields.read_pair.ended KeyFields.read_pair.Reads.Learnt
   pub read-keys : Settled KeyFields.read_keys.ended KeyFields.read_keys.Reads.Learnt
 
 -- every public function of sealed

@@ -20,7 +20,7 @@ use Rattle.weakfield.specs.WeakField.{listed, weakField}
 use Rattle.keybox.specs.KeyBox.{slices, parities, boxed}
 use Rattle.formatfield.specs.FormatField.{formatField}
 use Rattle.validationfield.specs.ValidationField.{validationField}
-use Rattle.keyfields.specs.KeyFields.{keys}
+use Rattle.keyfields.specs.KeyFields.{keyPair, keys}
 use Rattle.sealed.specs.Sealed.{sealed}
 use Rattle.offsetting.specs.Offsetting.{offsetting}
 use Rattle.weaklist.specs.WeakList.{weak}
@@ -33,7 +33,7 @@ use Rattle.claims_refusals.specs.Refusals.{RefusedCommands}
 
 pub refused-commands : RefusedCommands
 unfolding nibs packs xors every leading same allOf begins valueOf codeOf isFramed opening run number trailer lmkField beginsOne isOne permits blockLength keyBlock keyType hexKey lettered key listed
-    weakField entries isOn keys formatField sealed shapeOf validationField validationRow offsetting weak end slices parities boxed bkFields contents readRow pinWithNatural differences bkFinish bkAsk
+    weakField entries isOn keyPair keys formatField sealed shapeOf validationField validationRow offsetting weak end slices parities boxed bkFields contents readRow pinWithNatural differences bkFinish bkAsk
     bkAnswer askBy answerBy asking answered
 refused-commands = (
   refl,

@@ -22,10 +22,11 @@ use Rattle.lmk.specs.Lmk.{lmkField}
 use Rattle.lmk.specs.declared.Lmk.{Lmk}
 use Rattle.uses.specs.declared.Use.{Use}
 use Rattle.keys.specs.Keys.{keyType, key}
+use Rattle.keys.specs.declared.Letters.{Letters}
 use Rattle.weakfield.specs.WeakField.{weakField}
 use Rattle.formatfield.specs.FormatField.{formatField}
 use Rattle.validationfield.specs.ValidationField.{validationField}
-use Rattle.keyfields.specs.KeyFields.{keys}
+use Rattle.keyfields.specs.KeyFields.{keyPair, keys}
 use Rattle.sealed.specs.Sealed.{sealed}
 use Rattle.offsetting.specs.Offsetting.{offsetting}
 use Rattle.weaklist.specs.WeakList.{weak}
@@ -49,29 +50,54 @@ use Rattle.texts_data.proofs.Formats.{format-exact}
 use Rattle.texts_data.proofs.ValidationData.{data-exact}
 use Rattle.texts_data.proofs.WeakLists.{weak-exact}
 use Rattle.texts_stages.specs.StageTexts.{InputFields, inputsText, AreInputs}
-use Rattle.texts_stages.specs.StageWritings.{keysAt, sealedAt, inputsPlaced, inputsAt, InputsStand, endAt}
+use Rattle.texts_stages.specs.StageWritings.{pairAt, keysAt, sealedAt, inputsPlaced, inputsAt, InputsStand, endAt}
+
+-- ---- two keys
+
+abbrev pairJoined : ℕ → Letters → Use → Letters → Use → ℕ → Writing Keys
+pairJoined first letters₁ use₁ letters₂ use₂ at₁ =
+    joined at₁ (keyed letters₁ use₁)
+    (λ lmk₁ at₂. mapped (λ (lmk₂ : Lmk). record { first = lmk₁; second = lmk₂; field = first + 1; place = at₂ }) (keyed letters₂ use₂))
+
+pair-same : (first : ℕ) (letters₁ : Letters) (use₁ : Use) (letters₂ : Letters) (use₂ : Use) (at : ℕ)
+    → Same (pairJoined first letters₁ use₁ letters₂ use₂ at) (pairAt first letters₁ use₁ letters₂ use₂ at)
+pair-same first letters₁ use₁ letters₂ use₂ at = record {
+  to = λ p. record { first = p .0; second = p .1 };
+  text = λ p. refl;
+  value = λ p. refl;
+  good = λ p rest g. g;
+  from = λ k rest g. ((k .first, k .second), refl, g);
+}
+
+pub pair-exact : (first : ℕ) (letters₁ : Letters) (use₁ : Use) (letters₂ : Letters) (use₂ : Use) (s : List ℕ) (at : ℕ)
+    → ExactAt s at (keyPair first letters₁ use₁ letters₂ use₂ s at) (pairAt first letters₁ use₁ letters₂ use₂ at)
+unfolding keyPair
+pair-exact first letters₁ use₁ letters₂ use₂ s at =
+    stage-as (pairJoined first letters₁ use₁ letters₂ use₂ at) (pairAt first letters₁ use₁ letters₂ use₂ at) (pair-same first letters₁ use₁ letters₂ use₂ at) s at _
+    (field-exact s at first (key letters₁ use₁) (keyed letters₁ use₁) _ _ (key-exact letters₁ use₁)
+    (λ lmk₁ at₂. field-last s at₂ (first + 1) (key letters₂ use₂) (keyed letters₂ use₂) _ (key-exact letters₂ use₂)))
 
 -- ---- key type, and two keys
 
 abbrev keysJoined : ℕ → Use → Use → ℕ → Writing Keys
-keysJoined first use₁ use₂ at₁ =
-    joined at₁ types
-    (λ letters at₂. joined at₂ (keyed letters use₁)
-    (λ lmk₁ at₃. mapped (λ (lmk₂ : Lmk). record { first = lmk₁; second = lmk₂; field = first + 2; place = at₃ }) (keyed letters use₂)))
+keysJoined first use₁ use₂ at₁ = joined at₁ types (λ letters at₂. pairAt (first + 1) letters use₁ letters use₂ at₂)
 
 -- the letters that the type wants
 keys-same : (first : ℕ) (use₁ use₂ : Use) (at : ℕ) → Same (keysJoined first use₁ use₂ at) (keysAt first use₁ use₂ at)
 keys-same first use₁ use₂ at = record {
-  to = λ p. record { type = p .0; first = p .1 .0; second = p .1 .1 };
+  to = λ p. record { type = p .0; first = p .1 .first; second = p .1 .second };
   text = λ p. refl;
   value = λ p. refl;
   good = λ p rest g. record {
-    wanted = (wanted-admitted (p .0) (p .1 .0) .1 (g .1 .0 .0), wanted-admitted (p .0) (p .1 .1) .1 (g .1 .1 .0));
+    wanted = (wanted-admitted (p .0) (p .1 .first) .1 (g .1 .0 .0), wanted-admitted (p .0) (p .1 .second) .1 (g .1 .1 .0));
     first = g .1 .0 .1;
     second = g .1 .1 .1;
   };
-  from = λ k rest g.
-      ((k .type, (k .first, k .second)), refl, (tt, ((wanted-admitted (k .type) (k .first) .0 (g .wanted .0), g .first), (wanted-admitted (k .type) (k .second) .0 (g .wanted .1), g .second))));
+  from = λ k rest g. (
+    (k .type, record { first = k .first; second = k .second }),
+    refl,
+    (tt, ((wanted-admitted (k .type) (k .first) .0 (g .wanted .0), g .first), (wanted-admitted (k .type) (k .second) .0 (g .wanted .1), g .second))),
+  );
 }
 
 pub keys-exact : (first : ℕ) (use₁ use₂ : Use) (s : List ℕ) (at : ℕ) → ExactAt s at (keys first use₁ use₂ s at) (keysAt first use₁ use₂ at)
@@ -79,8 +105,7 @@ unfolding keys
 keys-exact first use₁ use₂ s at =
     stage-as (keysJoined first use₁ use₂ at) (keysAt first use₁ use₂ at) (keys-same first use₁ use₂ at) s at _
     (field-exact s at first keyType types _ _ type-exact
-    (λ letters at₂. field-exact s at₂ (first + 1) (key letters use₁) (keyed letters use₁) _ _ (key-exact letters use₁)
-    (λ lmk₁ at₃. field-last s at₃ (first + 2) (key letters use₂) (keyed letters use₂) _ (key-exact letters use₂))))
+    (λ letters at₂. pair-exact (first + 1) letters use₁ letters use₂ s at₂))
 
 -- ---- PIN block and format
 

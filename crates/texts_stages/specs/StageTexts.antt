@@ -8,6 +8,15 @@ use Rattle.texts.specs.Texts.{Run, Within, asTwoDigits, Optional, WherePresent,
 use Rattle.texts_keys.specs.KeyTexts.{KeyType, typeText, KeyRule, Key, keyText, IsKey, Wants, IsId, idText}
 use Rattle.texts_data.specs.DataTexts.{formatText, Allows, Validation, validationText, IsValidation}
 
+-- ---- "PIN key, then […] PVK"
+
+pub record PairFields : Type 0 where
+  pub first : Key
+  pub second : Key
+
+abbrev pub pairText : PairFields → List ℕ
+pairText k = keyText (k .first) ++ keyText (k .second)
+
 -- ---- "1. Key type"; "2. PIN key, then 3. PVK"
 
 pub record KeyFields : Type 0 where

@@ -6,25 +6,34 @@ use mathlib.Core.Bool.{Bool}
 use lib.ListN.{length}
 use Rattle.uses.specs.declared.Use.{Use}
 use Rattle.offsetting.specs.Offsetting.{part, validationIn}
+use Rattle.keys.specs.declared.Letters.{Letters}
 use Rattle.keyfields.specs.declared.Keys.{Keys}
 use Rattle.sealed.specs.declared.Sealed.{Sealed}
 use Rattle.offsetting.specs.declared.Offsetting.{Offsetting}
 use Rattle.texts.specs.Texts.{asTwoDigits}
 use Rattle.texts.specs.Exact.{Writing}
-use Rattle.texts_keys.specs.KeyTexts.{typeText, keyText, ownIds, AllSame, idText}
-use Rattle.texts_keys.specs.KeyWritings.{ruleFor, lmkOf, idsRead}
+use Rattle.texts_keys.specs.KeyTexts.{typeText, keyText, IsKey, ownIds, AllSame, idText}
+use Rattle.texts_keys.specs.KeyWritings.{ruleFor, Admits, lmkOf, idsRead}
 use Rattle.texts_data.specs.DataTexts.{validationText}
 use Rattle.texts_data.specs.DataWritings.{shape}
-use Rattle.texts_stages.specs.StageTexts.{KeyFields, keysText, AreKeys, SealedFields, sealedText, AreSealed, InputFields, inputsText, AreInputs, EndFields, endText, AreEnd}
+use Rattle.texts_stages.specs.StageTexts.{PairFields, pairText, KeyFields, keysText, AreKeys, SealedFields, sealedText, AreSealed, InputFields, inputsText, AreInputs, EndFields, endText, AreEnd}
 
--- of keys: their LMK ids, and where the second begins
-abbrev pub keysPlaced : ℕ → ℕ → KeyFields → Keys
-keysPlaced which at k = record {
-  first = lmkOf (k .first);
-  second = lmkOf (k .second);
-  field = which + 2;
-  place = at + length (typeText (k .type)) + length (keyText (k .first));
+-- of two keys: their LMK ids, and where the second begins
+abbrev pub pairPlaced : ℕ → ℕ → PairFields → Keys
+pairPlaced which at k = record { first = lmkOf (k .first); second = lmkOf (k .second); field = which + 1; place = at + length (keyText (k .first)) }
+
+-- each field admits its key by the letter, and it is a key of its rule
+abbrev pub pairAt : ℕ → Letters → Use → Letters → Use → ℕ → Writing Keys
+pairAt which letters₁ use₁ letters₂ use₂ at = record {
+  Part = PairFields;
+  fine = λ k _. (Admits letters₁ (k .first) × IsKey (ruleFor use₁) (k .first)) × (Admits letters₂ (k .second) × IsKey (ruleFor use₂) (k .second));
+  text = pairText;
+  value = pairPlaced which at;
 }
+
+-- of a key type and two keys the same: the keys begin behind the type
+abbrev pub keysPlaced : ℕ → ℕ → KeyFields → Keys
+keysPlaced which at k = pairPlaced (which + 1) (at + length (typeText (k .type))) (record { first = k .first; second = k .second })
 
 abbrev pub keysAt : ℕ → Use → Use → ℕ → Writing Keys
 keysAt which use₁ use₂ at = record { Part = KeyFields; fine = λ k _. AreKeys (ruleFor use₁) (ruleFor use₂) k; text = keysText; value = keysPlaced which at }
