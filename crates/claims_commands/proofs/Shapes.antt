@@ -27,7 +27,7 @@ use Rattle.responses.proofs.Laws.{Fine}
 use Rattle.offsetting.specs.Offsetting.{accountIn, validationIn}
 use Rattle.offsetting.specs.declared.Offsetting.{Offsetting}
 use Rattle.pairing.specs.Pairing.{askedAt}
-use Rattle.commands.specs.Commands.{askBy, answerBy, answered}
+use Rattle.commands.specs.Commands.{askBy, answerBy, answered, commanded}
 use Rattle.commands.proofs.Laws.{answered-framed, answer-by-sound}
 use Rattle.claims_blocks.proofs.Judged.{Only, done-only, test-only, then-only}
 use Rattle.claims_numbers.proofs.Refused.{row-only, sized-only, validation-only}
@@ -148,10 +148,14 @@ module _ {command : Code} {settings : Settings} {A B : Type 0} (c : Shape comman
     behind (done b) mark = refl
     behind (refused q) mark = refl
 
-    -- what a run answers that gets as far as its block: the response to its finish, with its trailer
+    -- what a run comes to that gets as far as its block: its finish, and behind 00 what that brings and the trailer
+    pub reached-said : heard (commanded settings g h s block enciphered (settings .header))
+        ≡ andThen (c .finish s (r .fields) (r .rows)) (λ b. done (payloadText (c .payload b) ++ drop (c .mark (r .fields)) s))
+    reached-said =
+        rw (r .coded, c .answers g h s (settings .header + 2) block enciphered, r .read, r .boxed)
+        (behind (c .finish s (r .fields) (r .rows)) (c .mark (r .fields)))
+
+    -- so what it answers is the response to that
     pub reached : answered settings g h s block enciphered room
         ≡ responding (settings .header) s (andThen (c .finish s (r .fields) (r .rows)) (λ b. done (payloadText (c .payload b) ++ drop (c .mark (r .fields)) s)))
-    reached =
-        answered-framed settings g h s block enciphered room (r .roomy) (r .framed)
-        ∙ rw (r .coded, c .answers g h s (settings .header + 2) block enciphered, r .read, r .boxed)
-        (ap (responding (settings .header) s) (behind (c .finish s (r .fields) (r .rows)) (c .mark (r .fields))))
+    reached = answered-framed settings g h s block enciphered room (r .roomy) (r .framed) ∙ ap (responding (settings .header) s) reached-said
