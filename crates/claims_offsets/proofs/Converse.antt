@@ -21,6 +21,7 @@ use Rattle.numbers.proofs.Laws.{passed, then-done}
 use Rattle.pins.specs.Pins.{sized}
 use Rattle.ibm3624.specs.Ibm3624.{covers, covered, offsetOf, moduloTen}
 use Rattle.offsettexts.specs.OffsetTexts.{offsetText, digitEnd, offsetPresented}
+use Rattle.offsettexts.proofs.Fill.{only-f}
 use Rattle.offsets.specs.Offsets.{digitsGiven, offsetJudged, spelt}
 use Rattle.verdicts.specs.Verdicts.{offsetVerdict}
 use Rattle.offsets.proofs.Laws.{offset-parts, digits-parts, differences-parts}
@@ -61,16 +62,8 @@ leading-every p (x ∷ xs) = go (leading-every p xs) (p x) refl
     go h true e = rw e h
     go h false e = refl
 
-only-f : (xs : List ℕ) → every (within 0x46 0x46) xs ≡ true → xs ≡ replicate (length xs) 0x46
-unfolding every
-only-f [] e = refl
-only-f (x ∷ xs) e =
-    let w = and-left (within 0x46 0x46 x) (every (within 0x46 0x46) xs) e in
-    ap₂ (λ (y : ℕ) (ys : List ℕ). y ∷ ys) (let l = inside-low 0x46 0x46 x w in let h = inside-high 0x46 0x46 x w in omega arith)
-    (only-f xs (and-right (within 0x46 0x46 x) (every (within 0x46 0x46) xs) e))
-
 -- a presented offset is the text of its digits
-presented-text : (cs os : List ℕ) → offsetPresented cs ≡ done os → offsetText os ≡ cs
+pub presented-text : (cs os : List ℕ) → offsetPresented cs ≡ done os → offsetText os ≡ cs
 presented-text cs os e =
     let n = digitEnd cs in
     let t = passed Field15 (eqb (length cs) 12 && (leb 4 n && every (within 0x46 0x46) (drop n cs))) (map valueOf (take n cs)) os e in

@@ -19,6 +19,7 @@ use Rattle.numbers.specs.declared.Refusal.the-variants.{Room901}
 use Rattle.numbers.proofs.Laws.{then-done, value-of}
 use Rattle.ibm3624.specs.Ibm3624.{covers, covered, offsetOf}
 use Rattle.offsettexts.specs.OffsetTexts.{offsetText, digitEnd, offsetPresented}
+use Rattle.offsettexts.proofs.Fill.{filled}
 use Rattle.ibm3624.proofs.Laws.{reduced-below, offset-many}
 use Rattle.offsettexts.proofs.Laws.{text-length, text-head}
 use Rattle.offsets.specs.Offsets.{given, pinAndNatural, offsetFor, offsetJudged}
@@ -43,11 +44,6 @@ values-back (d ∷ ds) b = ap₂ (λ (x : ℕ) (xs : List ℕ). x ∷ xs) (digit
 
 digit-admitted : (d : ℕ) → within 0 9 d ≡ true → admits Digit (0x30 + d) ≡ true
 digit-admitted d h = inside 0x30 0x39 (0x30 + d) (omega arith) (omega (arith, inside-high 0 9 d h))
-
-filled : (k : ℕ) → every (within 0x46 0x46) (replicate k 0x46) ≡ true
-unfolding every
-filled zero = refl
-filled (suc k) = filled k
 
 -- F is no digit
 fill-stops : (k : ℕ) → admits Digit (getD (replicate k 0x46) 0 0) ≡ false
