@@ -1,6 +1,6 @@
 -- One answer to every promise of the crates of commands: each function cites the law of its shape.
 -- Assumes nothing.
-use Rattle.claims_functions.specs.Commands.{KeyBoxSettled, ResponsesSettled, FrameSettled, FieldsSettled, LmkSettled, UsesSettled, KeyLengthsSettled, KeyBlocksSettled, KeysSettled, WeakSettled, WeakFieldSettled, FormatFieldSettled, ValidationFieldSettled, KeyFieldsSettled, SealedSettled, OffsettingSettled, WeakListSettled, EndingsSettled, PairingSettled, BkFieldsSettled, BkFinishSettled, BkSettled, CommandsSettled}
+use Rattle.claims_functions.specs.Commands.{KeyBoxSettled, ResponsesSettled, FrameSettled, FieldsSettled, LmkSettled, UsesSettled, KeyLengthsSettled, KeyBlocksSettled, KeysSettled, WeakSettled, WeakFieldSettled, FormatFieldSettled, ValidationFieldSettled, OffsetFieldSettled, KeyFieldsSettled, SealedSettled, OffsettingSettled, WeakListSettled, EndingsSettled, PairingSettled, BkFieldsSettled, BkFinishSettled, BkSettled, VerifyFieldsSettled, VerifyFinishSettled, VerifySettled, CommandsSettled}
 use Rattle.claims_functions.proofs.Once.{settled, left, answered}
 
 pub key-box-once : KeyBoxSettled
@@ -81,6 +81,9 @@ format-field-once = record {
 pub validation-field-once : ValidationFieldSettled
 validation-field-once = record { validation-field = λ κs a r r′ ends ends′. settled }
 
+pub offset-field-once : OffsetFieldSettled
+offset-field-once = record { offset-field = λ κs a r r′ ends ends′. settled }
+
 pub key-fields-once : KeyFieldsSettled
 key-fields-once = record {
   KeysRead·fault = λ κs a r r′ ends ends′. settled;
@@ -129,6 +132,21 @@ bk-finish-once = record { finish = λ κs a r r′ ends ends′. settled }
 
 pub bk-once : BkSettled
 bk-once = record {
+  ask = λ κs a r r′ ends ends′. settled;
+  answer = λ κs a r r′ ends ends′. settled;
+}
+
+pub verify-fields-once : VerifyFieldsSettled
+verify-fields-once = record {
+  VerificationRead·fault = λ κs a r r′ ends ends′. settled;
+  read = λ κs a r r′ ends ends′. settled;
+}
+
+pub verify-finish-once : VerifyFinishSettled
+verify-finish-once = record { finish = λ κs a r r′ ends ends′. settled }
+
+pub verify-once : VerifySettled
+verify-once = record {
   ask = λ κs a r r′ ends ends′. settled;
   answer = λ κs a r r′ ends ends′. settled;
 }

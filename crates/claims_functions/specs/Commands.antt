@@ -1,5 +1,5 @@
 -- One answer to every promise of the crates of commands: key box, responses, frame, fields, LMK ids, uses, key blocks and their lengths, keys,
--- weak lists, formats, validation data, the stages, endings, PIN with natural PIN, BK and the two calls.
+-- weak lists, formats, validation data, presented offsets, the stages, endings, PIN with natural PIN, BK, DA and EA, and the two calls.
 -- Each line is over the contract of the function of its name, as the checker reads it for a caller. No line needs what a function
 -- requires: outside it a contract promises nothing.
 use Rattle.keybox.proofs as KeyBox
@@ -15,6 +15,7 @@ use Rattle.weak.proofs as Weak
 use Rattle.weakfield.proofs as WeakField
 use Rattle.formatfield.proofs as FormatField
 use Rattle.validationfield.proofs as ValidationField
+use Rattle.offsetfield.proofs as OffsetField
 use Rattle.keyfields.proofs as KeyFields
 use Rattle.sealed.proofs as Sealed
 use Rattle.offsetting.proofs as Offsetting
@@ -24,6 +25,9 @@ use Rattle.pairing.proofs as Pairing
 use Rattle.bkfields.proofs as BkFields
 use Rattle.bkfinish.proofs as BkFinish
 use Rattle.bk.proofs as Bk
+use Rattle.verifyfields.proofs as VerifyFields
+use Rattle.verifyfinish.proofs as VerifyFinish
+use Rattle.verify.proofs as Verify
 use Rattle.commands.proofs as Commands
 use Rattle.claims_functions.specs.Once.{Settled}
 
@@ -100,6 +104,10 @@ pub record FormatFieldSettled : Type 0 where
 pub record ValidationFieldSettled : Type 0 where
   pub validation-field : Settled ValidationField.validation_field.ended ValidationField.validation_field.Reads.Learnt
 
+-- every public function of offsetfield
+pub record OffsetFieldSettled : Type 0 where
+  pub offset-field : Settled OffsetField.offset_field.ended OffsetField.offset_field.Reads.Learnt
+
 -- every public function of keyfields
 pub record KeyFieldsSettled : Type 0 where
   pub KeysRead·fault : Settled KeyFields.KeysRead.fault.ended KeyFields.KeysRead.fault.Reads.Learnt
@@ -144,6 +152,20 @@ pub record BkFinishSettled : Type 0 where
 pub record BkSettled : Type 0 where
   pub ask : Settled Bk.ask.ended Bk.ask.Reads.Learnt
   pub answer : Settled Bk.answer.ended Bk.answer.Reads.Learnt
+
+-- every public function of verifyfields
+pub record VerifyFieldsSettled : Type 0 where
+  pub VerificationRead·fault : Settled VerifyFields.VerificationRead.fault.ended VerifyFields.VerificationRead.fault.Reads.Learnt
+  pub read : Settled VerifyFields.read.ended VerifyFields.read.Reads.Learnt
+
+-- every public function of verifyfinish
+pub record VerifyFinishSettled : Type 0 where
+  pub finish : Settled VerifyFinish.finish.ended VerifyFinish.finish.Reads.Learnt
+
+-- every public function of verify
+pub record VerifySettled : Type 0 where
+  pub ask : Settled Verify.ask.ended Verify.ask.Reads.Learnt
+  pub answer : Settled Verify.answer.ended Verify.answer.Reads.Learnt
 
 -- every public function of commands
 pub record CommandsSettled : Type 0 where

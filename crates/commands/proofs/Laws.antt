@@ -19,12 +19,14 @@ use Rattle.settings.specs.declared.Settings.{Settings}
 use Rattle.answers.proofs.Laws.{Sixteen}
 use Rattle.frame.specs.Frame.{isFramed, framed, codeOf}
 use Rattle.frame.specs.declared.Code.{Code}
-use Rattle.frame.specs.declared.Code.the-variants.{Bk, Other}
+use Rattle.frame.specs.declared.Code.the-variants.{Bk, Da, Ea, Other}
 use Rattle.fields.specs.Fields.{unpointed, heard}
 use Rattle.fields.proofs.Rulings.{pointing-done}
 use Rattle.responses.specs.Responses.{Payload, responding}
 use Rattle.responses.proofs.Laws.{Blocky, Sound}
+use Rattle.uses.specs.Uses.{terminalKey, zoneKey}
 use Rattle.bk.proofs.Places.{asked-row, answer-sound}
+use Rattle.verify.proofs.Places as verify
 use Rattle.commands.specs.Commands.{askBy, answerBy, opened, asking, asked, answered, commanded}
 
 -- ---- the asking call
@@ -48,6 +50,8 @@ asked-block settings s room bs e =
     (leb-true 8 room (passed Room901 (leb 8 room) room (r .0) (r .1) .0), by-code (codeOf (drop (f .0) s)) (f .0 + 2) (f .2)) where
       by-code : (code : Code) (at : ℕ) → askBy code settings s at ≡ done bs → (ns : List ℕ) × Sixteen ns × (bs ≡ packs ns)
       by-code Bk at h = asked-row settings s at bs h
+      by-code Da at h = verify.asked-row terminalKey s at bs h
+      by-code Ea at h = verify.asked-row zoneKey s at bs h
       by-code Other at h = absurd (let z : _≡_ {A = ℕ} 0 1 = cc in omega arith)
 
 -- ---- the answering call
@@ -58,6 +62,8 @@ pub answer-by-sound :
     → answerBy code settings g h s at block enciphered ≡ done d → Sound s d
 unfolding answerBy
 answer-by-sound Bk settings g h s at block enciphered d e = answer-sound settings g h s at block enciphered d e
+answer-by-sound Da settings g h s at block enciphered d e = verify.answer-sound terminalKey (settings .variable) g h s at block enciphered d e
+answer-by-sound Ea settings g h s at block enciphered d e = verify.answer-sound zoneKey (settings .variable) g h s at block enciphered d e
 answer-by-sound Other settings g h s at block enciphered d e = absurd (let z : _≡_ {A = ℕ} 0 1 = cc in omega arith)
 
 module _ (settings : Settings) (g h : Bool) (s block enciphered : List ℕ) (room : ℕ) where

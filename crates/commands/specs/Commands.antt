@@ -10,22 +10,29 @@ use Rattle.numbers.specs.declared.Refusal.the-variants.{Code68, Room901}
 use Rattle.settings.specs.declared.Settings.{Settings}
 use Rattle.frame.specs.Frame.{framed, codeOf}
 use Rattle.frame.specs.declared.Code.{Code}
-use Rattle.frame.specs.declared.Code.the-variants.{Bk, Other}
+use Rattle.frame.specs.declared.Code.the-variants.{Bk, Da, Ea, Other}
 use Rattle.fields.specs.Fields.{Ruling, unpointed, heard}
 use Rattle.responses.specs.Responses.{Payload, roomToAnswer, answerText, responding}
+use Rattle.uses.specs.Uses.{terminalKey, zoneKey}
 use Rattle.bk.specs.Bk.{bkAsk, bkAnswer}
+use Rattle.verify.specs.Verify.{verifyAsk, verifyAnswer}
 
 -- "Output must have at least 65 bytes for the answering call, 8 for the asking call": the first stands with the responses
 abbrev pub roomToAsk : ℕ
 roomToAsk = 8
 
--- the command by its code: "command code other than BK" is 68. Its fields begin behind the two bytes of the code
+-- the command by its code: a code that is none of these is 68. Its fields begin behind the two bytes of the code. DA has a terminal's
+-- PIN key, EA a zone's
 unfoldable pub askBy : Code → Settings → List ℕ → ℕ → Ruling (List ℕ)
 askBy Bk settings s fields = bkAsk settings s fields
+askBy Da settings s fields = verifyAsk terminalKey s fields
+askBy Ea settings s fields = verifyAsk zoneKey s fields
 askBy Other settings s fields = unpointed (refused Code68)
 
 unfoldable pub answerBy : Code → Settings → Bool → Bool → List ℕ → ℕ → List ℕ → List ℕ → Ruling (Payload × ℕ)
 answerBy Bk settings pinKeyGood pvkGood s fields block enciphered = bkAnswer settings pinKeyGood pvkGood s fields block enciphered
+answerBy Da settings pinKeyGood pvkGood s fields block enciphered = verifyAnswer terminalKey (settings .variable) pinKeyGood pvkGood s fields block enciphered
+answerBy Ea settings pinKeyGood pvkGood s fields block enciphered = verifyAnswer zoneKey (settings .variable) pinKeyGood pvkGood s fields block enciphered
 answerBy Other settings pinKeyGood pvkGood s fields block enciphered = unpointed (refused Code68)
 
 -- 901, 902: where the command's code stands

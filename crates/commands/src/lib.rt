@@ -13,6 +13,7 @@ use numbers::Reply;
 use responses::Answered;
 use responses::Asked;
 use settings::Settings;
+use uses::Use;
 
 const ROOM_TO_ANSWER: usize = 65;
 
@@ -23,8 +24,11 @@ fn ask_by(settings: Settings, command: &[u8], code: usize) -> Asked
     requires { ⌜ code + 2 ≤ length (now command) ⌝ }
     ensures { λ r. ⌜ r ≡ askedOf (askBy (codeOf (drop code (now (command .entry)))) settings (now (command .entry)) (code + 2)) ⌝ }
 {
+    let start = Cursor { at: code + 2 };
     match Code::at(command, code) {
-        Code::Bk => bk::ask(settings, command, Cursor { at: code + 2 }),
+        Code::Bk => bk::ask(settings, command, start),
+        Code::Da => verify::ask(Use::TERMINAL_KEY, command, start),
+        Code::Ea => verify::ask(Use::ZONE_KEY, command, start),
         Code::Other => Asked::Bad(fields::unpointed(Refusal::Code68)),
     }
 }
@@ -64,18 +68,32 @@ fn answer_by(
     requires { ⌜ code + 2 ≤ length (now command) ⌝ }
     ensures { λ r. ⌜ r ≡ answeredOf (answerBy (codeOf (drop code (now (command .entry)))) settings pinparity pvkparity (now (command .entry)) (code + 2) (now (block .entry)) (now (enciphered .entry))) ⌝ }
 {
-    match Code::at(command, code) {
-        Code::Bk => bk::answer(
-            settings,
-            pinparity,
-            pvkparity,
-            command,
-            Cursor { at: code + 2 },
-            block,
-            enciphered,
-        ),
-        Code::Other => Answered::Bad(fields::unpointed(Refusal::Code68)),
-    }
+    let pinkey = match Code::at(command, code) {
+        Code::Bk => {
+            return bk::answer(
+                settings,
+                pinparity,
+                pvkparity,
+                command,
+                Cursor { at: code + 2 },
+                block,
+                enciphered,
+            );
+        }
+        Code::Da => Use::TERMINAL_KEY,
+        Code::Ea => Use::ZONE_KEY,
+        Code::Other => return Answered::Bad(fields::unpointed(Refusal::Code68)),
+    };
+    verify::answer(
+        pinkey,
+        settings.variable,
+        pinparity,
+        pvkparity,
+        command,
+        Cursor { at: code + 2 },
+        block,
+        enciphered,
+    )
 }
 
 // From the frame on every number is answered with a response.

@@ -11,7 +11,7 @@ use Rattle.lmk.specs.Lmk.{lmkField, agree, present}
 use Rattle.lmk.specs.declared.Lmk.{Lmk}
 use Rattle.keyfields.specs.declared.Keys.{Keys}
 
--- "LMK ids present in fields 2, 3 and 11 must all agree"
+-- "LMK ids present in fields 2, 3 and 11 must all agree"; of DA and EA those in fields 1, 2 and 11
 abbrev pub allAgree : Keys → Lmk → Bool
 allAgree ks own = agree (ks .first) (ks .second) && (agree (ks .first) own && agree (ks .second) own)
 

@@ -10,7 +10,7 @@ use Rattle.numbers.specs.Numbers.{Outcome, unless}
 use Rattle.numbers.specs.declared.Refusal.the-variants.{Frame902}
 use Rattle.settings.specs.Settings.{longestHeader}
 use Rattle.frame.specs.declared.Code.{Code}
-use Rattle.frame.specs.declared.Code.the-variants.{Bk, Other}
+use Rattle.frame.specs.declared.Code.the-variants.{Bk, Da, Ea, Other}
 
 abbrev pub longestCommand : ℕ
 longestCommand = 4096
@@ -24,13 +24,19 @@ isFramed header s =
 abbrev pub framed : ℕ → List ℕ → Outcome ℕ
 framed header s = unless Frame902 (isFramed header s) header
 
--- `BK`
+-- `BK`, `DA`, `EA`
 abbrev pub bk : List ℕ
 bk = 0x42 ∷ 0x4B ∷ []
 
+abbrev pub da : List ℕ
+da = 0x44 ∷ 0x41 ∷ []
+
+abbrev pub ea : List ℕ
+ea = 0x45 ∷ 0x41 ∷ []
+
 -- which command it is, by the two bytes of its code
 abbrev pub codeOf : List ℕ → Code
-codeOf cs = cond (begins bk cs) Bk Other
+codeOf cs = cond (begins bk cs) Bk (cond (begins da cs) Da (cond (begins ea cs) Ea Other))
 
 -- "its second byte raised by one (255 becomes 0)"
 abbrev pub raised : ℕ → ℕ

@@ -11,9 +11,15 @@ const LONGEST_COMMAND: usize = 4096;
 
 const BK: [u8; 2] = *b"BK";
 
+const DA: [u8; 2] = *b"DA";
+
+const EA: [u8; 2] = *b"EA";
+
 // The commands that there are, by their codes.
 pub enum Code {
     Bk,
+    Da,
+    Ea,
     Other,
 }
 
@@ -23,8 +29,16 @@ impl Code {
         ensures { λ r. ⌜ r ≡ codeOf (drop at (now (command .entry))) ⌝ }
     {
         let bk = BK;
+        let da = DA;
+        let ea = EA;
         if alphabet::has_at(command, at, &bk) {
             return Code::Bk;
+        }
+        if alphabet::has_at(command, at, &da) {
+            return Code::Da;
+        }
+        if alphabet::has_at(command, at, &ea) {
+            return Code::Ea;
         }
         Code::Other
     }

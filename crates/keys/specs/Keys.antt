@@ -34,6 +34,10 @@ onlyUOrT = record { bare = false; double = true; triple = true; block = false }
 abbrev pub onlyS : Letters
 onlyS = record { bare = false; double = false; triple = false; block = true }
 
+-- where no key type stands before the keys, as in DA and EA: each field goes by its own letter
+abbrev pub anyLetter : Letters
+anyLetter = record { bare = false; double = true; triple = true; block = true }
+
 -- "Key type, 3 characters: 001, 002 or FFF, else 15"; of a type the letters are read that it wants
 unfoldable pub keyType : List ℕ → Found Letters
 keyType cs =

@@ -48,6 +48,14 @@ impl Letters {
         triple: false,
     };
 
+    // Each field goes by its own letter, where no key type stands before the keys.
+    pub const U_T_OR_S: Letters = Letters {
+        block: true,
+        bare: false,
+        double: true,
+        triple: true,
+    };
+
     // Whether a character begins a key without a letter that the field admits.
     fn admits_bare(self, first: u8) -> bool
         ensures { λ r. ⌜ r ≡ (self .bare && admits CapitalHex first) ⌝ }

@@ -6,9 +6,9 @@ use lib.ListN.{getD, drop}
 use lib.Dec.{eqb}
 use Rattle.alphabet.specs.Alphabet.{begins}
 use Rattle.uses.specs.declared.Usages.{Usages}
-use Rattle.uses.specs.declared.Usages.the-variants.{P0Or71Or72, V1}
+use Rattle.uses.specs.declared.Usages.the-variants.{P0Or71Or72, P0Or71, P0Or72, V1}
 use Rattle.uses.specs.declared.Modes.{Modes}
-use Rattle.uses.specs.declared.Modes.the-variants.{BOrDOrN, COrGOrN}
+use Rattle.uses.specs.declared.Modes.the-variants.{BOrDOrN, COrGOrN, COrVOrN}
 use Rattle.uses.specs.declared.Use.{Use}
 
 -- ---- usages
@@ -29,6 +29,8 @@ usageV1 = 0x56 ∷ 0x31 ∷ []
 -- the usages, one after the other
 abbrev pub usagesIn : Usages → List (List ℕ)
 usagesIn P0Or71Or72 = usageP0 ∷ (usage71 ∷ (usage72 ∷ []))
+usagesIn P0Or71 = usageP0 ∷ (usage71 ∷ [])
+usagesIn P0Or72 = usageP0 ∷ (usage72 ∷ [])
 usagesIn V1 = usageV1 ∷ []
 
 -- ---- algorithm and modes
@@ -37,7 +39,7 @@ usagesIn V1 = usageV1 ∷ []
 abbrev pub algorithmT : ℕ
 algorithmT = 0x54
 
--- `B`, `C`, `D`, `G`, `N`
+-- `B`, `C`, `D`, `G`, `N`, `V`
 abbrev pub modeB : ℕ
 modeB = 0x42
 
@@ -53,10 +55,14 @@ modeG = 0x47
 abbrev pub modeN : ℕ
 modeN = 0x4E
 
+abbrev pub modeV : ℕ
+modeV = 0x56
+
 -- the modes, one after the other
 abbrev pub modesIn : Modes → List ℕ
 modesIn BOrDOrN = modeB ∷ modeD ∷ modeN ∷ []
 modesIn COrGOrN = modeC ∷ modeG ∷ modeN ∷ []
+modesIn COrVOrN = modeC ∷ modeV ∷ modeN ∷ []
 
 -- ---- uses
 
@@ -67,6 +73,17 @@ pinKey = record { usages = P0Or71Or72; modes = BOrDOrN }
 -- "PVK: V1; T; C, G or N"
 abbrev pub pvk : Use
 pvk = record { usages = V1; modes = COrGOrN }
+
+-- the PIN key of DA is a terminal's: P0 or 71; T; B, D or N. That of EA is a zone's: P0 or 72; T; B, D or N
+abbrev pub terminalKey : Use
+terminalKey = record { usages = P0Or71; modes = BOrDOrN }
+
+abbrev pub zoneKey : Use
+zoneKey = record { usages = P0Or72; modes = BOrDOrN }
+
+-- the PVK of DA and EA verifies: V1; T; C, V or N
+abbrev pub verifyingPvk : Use
+verifyingPvk = record { usages = V1; modes = COrVOrN }
 
 -- the characters begin with one of several texts
 unfoldable pub beginsOne : List (List ℕ) → List ℕ → Bool

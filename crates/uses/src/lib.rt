@@ -1,5 +1,6 @@
 // What a key block must permit: algorithm T, and a usage and a mode of what the key is for.
 ghost use mathlib.Core.Path.{_≡_};
+ghost use mathlib.Core.List.{[], _∷_};
 ghost use Prim.Native.Nat.{_+_, _≤_};
 ghost use lib.ListN.{length, drop};
 ghost use Rattle.uses.specs.Uses.{usagesIn, beginsOne, modesIn, isOne, permits};
@@ -15,6 +16,8 @@ const USAGE_V1: [u8; 2] = *b"V1";
 // The usages that a key may have.
 pub enum Usages {
     P0Or71Or72,
+    P0Or71,
+    P0Or72,
     V1,
 }
 
@@ -22,12 +25,27 @@ pub enum Usages {
 pub enum Modes {
     BOrDOrN,
     COrGOrN,
+    COrVOrN,
 }
 
 // What a key is for, as what its key block may say.
 pub struct Use {
     pub usages: Usages,
     pub modes: Modes,
+}
+
+// Whether one of two texts stands at a place.
+fn either_at(command: &[u8], at: usize, one: &[u8], other: &[u8]) -> bool
+    ensures { λ r. ⌜ r ≡ beginsOne (now (one .entry) ∷ (now (other .entry) ∷ [])) (drop at (now (command .entry))) ⌝ }
+{
+    alphabet::has_at(command, at, one) || alphabet::has_at(command, at, other)
+}
+
+// Whether a character is one of three.
+fn is_one_of(c: u8, first: u8, second: u8, third: u8) -> bool
+    ensures { λ r. ⌜ r ≡ isOne (first ∷ second ∷ third ∷ []) c ⌝ }
+{
+    c == first || c == second || c == third
 }
 
 impl Usages {
@@ -45,6 +63,8 @@ impl Usages {
                     || alphabet::has_at(command, at, &terminal)
                     || alphabet::has_at(command, at, &zone)
             }
+            Usages::P0Or71 => either_at(command, at, &p0, &terminal),
+            Usages::P0Or72 => either_at(command, at, &p0, &zone),
             Usages::V1 => alphabet::has_at(command, at, &v1),
         }
     }
@@ -56,8 +76,9 @@ impl Modes {
         ensures { λ r. ⌜ r ≡ isOne (modesIn self) mode ⌝ }
     {
         match self {
-            Modes::BOrDOrN => mode == b'B' || mode == b'D' || mode == b'N',
-            Modes::COrGOrN => mode == b'C' || mode == b'G' || mode == b'N',
+            Modes::BOrDOrN => is_one_of(mode, b'B', b'D', b'N'),
+            Modes::COrGOrN => is_one_of(mode, b'C', b'G', b'N'),
+            Modes::COrVOrN => is_one_of(mode, b'C', b'V', b'N'),
         }
     }
 }
@@ -73,6 +94,23 @@ impl Use {
     pub const PVK: Use = Use {
         usages: Usages::V1,
         modes: Modes::COrGOrN,
+    };
+
+    // The PIN key of DA is a terminal's: P0 or 71; T; B, D or N. That of EA is a zone's: P0 or 72; T; B, D or N.
+    pub const TERMINAL_KEY: Use = Use {
+        usages: Usages::P0Or71,
+        modes: Modes::BOrDOrN,
+    };
+
+    pub const ZONE_KEY: Use = Use {
+        usages: Usages::P0Or72,
+        modes: Modes::BOrDOrN,
+    };
+
+    // The PVK of DA and EA verifies: V1; T; C, V or N.
+    pub const VERIFYING_PVK: Use = Use {
+        usages: Usages::V1,
+        modes: Modes::COrVOrN,
     };
 
     // Whether the key block that begins at a place permits this use.

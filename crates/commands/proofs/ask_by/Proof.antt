@@ -7,20 +7,32 @@ use borrow.Author.Needs.{needs}
 use Rattle.commands.proofs.ask_by.Statement.{statement}
 use Rattle.commands.proofs.ask_by.Tie as tie
 
+add-t5 : tie.Need-add-t5
+add-t5 c = search needs
+
 at-requires : tie.Need-at-requires
 at-requires c κs = search needs
 
 enum-told : tie.Need-enum-told
 enum-told c = search needs
 
-add-t6 : tie.Need-add-t6
-add-t6 c = search needs
-
 ask-requires : tie.Need-ask-requires
 ask-requires c κs = search needs
 
 enum-told-2 : tie.Need-enum-told-2
 enum-told-2 c = search needs
+
+ask-requires-2 : tie.Need-ask-requires-2
+ask-requires-2 c κs = search needs
+
+enum-told-3 : tie.Need-enum-told-3
+enum-told-3 c = search needs
+
+ask-requires-3 : tie.Need-ask-requires-3
+ask-requires-3 c κs = search needs
+
+enum-told-4 : tie.Need-enum-told-4
+enum-told-4 c = search needs
 
 unpointed-requires : tie.Need-unpointed-requires
 unpointed-requires c κs = search needs
@@ -31,8 +43,31 @@ returns c = rw (sym (c .before .before .before .at .ensures) ∙ c .before .enum
 
 returns-2 : tie.Need-returns-2
 unfolding askBy
-returns-2 c = ap Bad (c .unpointed .ensures) ∙ rw (sym (c .before .before .before .at .ensures) ∙ c .before .enum-told2 .given .1)
+returns-2 c = rw (sym (c .before .before .before .at .ensures) ∙ c .before .enum-told2 .given .1) (c .ask2 .ensures)
+
+returns-3 : tie.Need-returns-3
+unfolding askBy
+returns-3 c = rw (sym (c .before .before .before .at .ensures) ∙ c .before .enum-told3 .given .1) (c .ask3 .ensures)
+
+returns-4 : tie.Need-returns-4
+unfolding askBy
+returns-4 c = ap Bad (c .unpointed .ensures) ∙ rw (sym (c .before .before .before .at .ensures) ∙ c .before .enum-told4 .given .1)
 
 pub ask-by-spec : {M : Type 1} → statement M
 ask-by-spec =
-    tie.close (tie.spec at-requires enum-told add-t6 ask-requires enum-told-2 unpointed-requires returns returns-2)
+    tie.close
+    (tie.spec
+    add-t5
+    at-requires
+    enum-told
+    ask-requires
+    enum-told-2
+    ask-requires-2
+    enum-told-3
+    ask-requires-3
+    enum-told-4
+    unpointed-requires
+    returns
+    returns-2
+    returns-3
+    returns-4)

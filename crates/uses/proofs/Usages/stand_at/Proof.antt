@@ -35,6 +35,30 @@ has-at-requires-3 c κs = search needs
 enum-told-2 : tie.Need-enum-told-2
 enum-told-2 c = search needs
 
+slice-aggregate-either-at : tie.Need-slice-aggregate-either-at
+slice-aggregate-either-at c = search needs
+
+slice-aggregate-either-at-2 : tie.Need-slice-aggregate-either-at-2
+slice-aggregate-either-at-2 c = search needs
+
+either-at-requires : tie.Need-either-at-requires
+either-at-requires c κs = search needs
+
+enum-told-3 : tie.Need-enum-told-3
+enum-told-3 c = search needs
+
+slice-aggregate-either-at-3 : tie.Need-slice-aggregate-either-at-3
+slice-aggregate-either-at-3 c = search needs
+
+slice-aggregate-either-at-4 : tie.Need-slice-aggregate-either-at-4
+slice-aggregate-either-at-4 c = search needs
+
+either-at-requires-2 : tie.Need-either-at-requires-2
+either-at-requires-2 c κs = search needs
+
+enum-told-4 : tie.Need-enum-told-4
+enum-told-4 c = search needs
+
 slice-aggregate-has-at-4 : tie.Need-slice-aggregate-has-at-4
 slice-aggregate-has-at-4 c = search needs
 
@@ -66,8 +90,14 @@ returns-2 c =
     rw (b .before .before .before .before .enum-told .given .1) (c .has-at3 .ensures ∙ or-last (begins usage72 cs) ∙ last)
 
 returns-3 : tie.Need-returns-3
+returns-3 c = rw (c .before .before .before .enum-told2 .given .1) (c .either-at .ensures)
+
+returns-4 : tie.Need-returns-4
+returns-4 c = rw (c .before .before .before .enum-told3 .given .1) (c .either-at2 .ensures)
+
+returns-5 : tie.Need-returns-5
 unfolding beginsOne
-returns-3 c = rw (c .before .before .enum-told2 .given .1) (c .has-at4 .ensures ∙ or-last _)
+returns-5 c = rw (c .before .before .enum-told4 .given .1) (c .has-at4 .ensures ∙ or-last _)
 
 pub stand-at-spec : {M : Type 1} → statement M
 stand-at-spec =
@@ -81,8 +111,18 @@ stand-at-spec =
     slice-aggregate-has-at-3
     has-at-requires-3
     enum-told-2
+    slice-aggregate-either-at
+    slice-aggregate-either-at-2
+    either-at-requires
+    enum-told-3
+    slice-aggregate-either-at-3
+    slice-aggregate-either-at-4
+    either-at-requires-2
+    enum-told-4
     slice-aggregate-has-at-4
     has-at-requires-4
     returns
     returns-2
-    returns-3)
+    returns-3
+    returns-4
+    returns-5)

@@ -1,0 +1,2 @@
+pub mod VerifyFields
+pub mod Answers
