@@ -5,8 +5,9 @@ use mathlib.Core.List.{List}
 use mathlib.Core.Bool.{Bool}
 use Rattle.fields.specs.Fields.{Found, read, field, onward}
 use Rattle.uses.specs.declared.Use.{Use}
+use Rattle.keys.specs.declared.Letters.{Letters}
 use Rattle.weak.specs.declared.Weak.{Weak}
-use Rattle.keyfields.specs.KeyFields.{keys}
+use Rattle.keyfields.specs.KeyFields.{keyPair, keys}
 use Rattle.sealed.specs.Sealed.{sealed}
 use Rattle.offsetting.specs.Offsetting.{offsetting}
 use Rattle.weaklist.specs.WeakList.{weak}
@@ -18,8 +19,8 @@ use Rattle.texts.specs.Exact.{Writing, Exact}
 use Rattle.texts.specs.Joining.{joined, mapped}
 use Rattle.texts_data.specs.DataWritings.{weakLists}
 use Rattle.texts.proofs.Closing.{onward-exact, onward-last, field-exact, field-last}
-use Rattle.texts_stages.specs.StageWritings.{keysAt, sealedAt, inputsAt, endAt}
-use Rattle.texts_stages.proofs.Stages.{keys-exact, sealed-exact, inputs-exact, weak-stage-exact, end-exact}
+use Rattle.texts_stages.specs.StageWritings.{pairAt, keysAt, sealedAt, inputsAt, endAt}
+use Rattle.texts_stages.proofs.Stages.{pair-exact, keys-exact, sealed-exact, inputs-exact, weak-stage-exact, end-exact}
 use Rattle.claims_alike.specs.Alike.{Piece, Layout}
 
 -- a stage, and what comes next; a last stage
@@ -53,6 +54,13 @@ fieldLast k reader w x f = record {
 }
 
 -- ---- the stages that commands share
+
+abbrev pub pairPiece : ℕ → Letters → Use → Letters → Use → Piece Keys
+pairPiece first letters₁ use₁ letters₂ use₂ = record {
+  stage = keyPair first letters₁ use₁ letters₂ use₂;
+  writing = pairAt first letters₁ use₁ letters₂ use₂;
+  exact = pair-exact first letters₁ use₁ letters₂ use₂;
+}
 
 abbrev pub keysPiece : ℕ → Use → Use → Piece Keys
 keysPiece first use₁ use₂ = record { stage = keys first use₁ use₂; writing = keysAt first use₁ use₂; exact = keys-exact first use₁ use₂ }

@@ -25,7 +25,7 @@ use Rattle.offsets.specs.Offsets.{pinWithNatural}
 use Rattle.frame.specs.Frame as frame
 use Rattle.frame.specs.Frame.{isFramed, framed, opening}
 use Rattle.frame.specs.declared.Code.{Code}
-use Rattle.frame.specs.declared.Code.the-variants.{Bk, Other}
+use Rattle.frame.specs.declared.Code.the-variants.{Bk, Da, Ea, Other}
 use Rattle.fields.specs.Fields.{read, onward, unpointed, heard, run, number, trailer}
 use Rattle.fields.specs.declared.Fault.{Fault}
 use Rattle.fields.proofs.Rulings.{heard-refused}
@@ -56,6 +56,11 @@ use Rattle.claims_commands.specs.Cores.{commandOf, otherAccount, enciphe
 use Rattle.fields.proofs.Reading.{onward-read, read-once}
 use Rattle.claims_commands.proofs.Shapes.{answer-refuses}
 use Rattle.claims_commands.proofs.Listing.{bkShape}
+use Rattle.claims_commands.proofs.Verifying.{verifyShape, parts}
+use Rattle.verifyfields.specs.VerifyFields.{verifyFields}
+use Rattle.verifyfields.specs.declared.Verification.{Verification}
+use Rattle.uses.specs.declared.Use.{Use}
+use Rattle.claims_commands.specs.Runs.{terminal, zone, keyFor}
 use Rattle.uses.specs.Uses.{pinKey, pvk}
 use Rattle.keyfields.specs.declared.Keys.{Keys}
 use Rattle.sealed.specs.declared.Sealed.{Sealed}
@@ -160,18 +165,25 @@ measured restricted s at p past e =
         let u = onward-read (end 11 ks s (o .1)) _ p past (o .3) in
         h ∙ ap (λ (q : bk.Bk). read (q .offsetting) at₁₀) (read-once (u .3) .0)
 
--- so the asking call refuses nothing behind the fields
-asked-done : (restricted : Bool) (s : List ℕ) (at : ℕ) (p : bk.Bk) (past : ℕ) → bkFields restricted s at ≡ read p past → (bytes : List ℕ) × (askedAt s (p .offsetting) ≡ done bytes)
-asked-done restricted s at p past e =
-    let h = measured restricted s at p past e in
-    let row = row-of-valid (accountIn s (p .offsetting)) (validationIn s (p .offsetting)) (offsetting-held 6 s (h .0) (p .offsetting) (h .1) (h .2) .valid) in
+-- so the asking call refuses nothing behind the fields: of BK, and of DA and EA
+judged-done : (s : List ℕ) (inputs : Offsetting) (at₆ at₁₀ : ℕ) → offsetting 6 s at₆ ≡ read inputs at₁₀ → (bytes : List ℕ) × (askedAt s inputs ≡ done bytes)
+judged-done s inputs at₆ at₁₀ e =
+    let row = row-of-valid (accountIn s inputs) (validationIn s inputs) (offsetting-held 6 s at₆ inputs at₁₀ e .valid) in
     (packs (row .0), rw (row .1) refl)
+
+asked-done : (restricted : Bool) (s : List ℕ) (at : ℕ) (p : bk.Bk) (past : ℕ) → bkFields restricted s at ≡ read p past → (bytes : List ℕ) × (askedAt s (p .offsetting) ≡ done bytes)
+asked-done restricted s at p past e = let h = measured restricted s at p past e in judged-done s (p .offsetting) (h .0) (h .1) (h .2)
+
+verify-asked : (for : Use) (s : List ℕ) (at : ℕ) (v : Verification) (past : ℕ) → verifyFields for s at ≡ read v past → (bytes : List ℕ) × (askedAt s (v .offsetting) ≡ done bytes)
+verify-asked for s at v past e = let h = parts for s at v past e in judged-done s (v .offsetting) (h .check) (h .past) (h .inputs)
 
 module _ (settings : Settings) (g h : Bool) (s block enciphered : List ℕ) where
   -- and the answering call refuses in them too
   by-code : (c : Code) (at : ℕ) (f : Fault) → askBy c settings s at ≡ refused f → answerBy c settings g h s at block enciphered ≡ refused f
   unfolding askBy answerBy
   by-code Bk at f e = answer-refuses (bkShape settings) (asked-done (settings .restricted)) g h s at block enciphered f e
+  by-code Da at f e = answer-refuses (verifyShape terminal settings) (verify-asked (keyFor terminal)) g h s at block enciphered f e
+  by-code Ea at f e = answer-refuses (verifyShape zone settings) (verify-asked (keyFor zone)) g h s at block enciphered f e
   by-code Other at f e = ap refused (refusal-of e)
 
   by-frame :

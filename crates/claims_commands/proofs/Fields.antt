@@ -24,16 +24,18 @@ use Rattle.fields.proofs.Rulings.{heard-pointing}
 use Rattle.fields.specs.declared.Fault.{Fault}
 use Rattle.lmk.specs.Lmk.{lmkField, present}
 use Rattle.lmk.specs.declared.Lmk.{Lmk}
-use Rattle.uses.specs.Uses.{pinKey, pvk, permits}
+use Rattle.uses.specs.Uses.{pinKey, pvk, verifyingPvk, permits}
 use Rattle.uses.specs.declared.Use.{Use}
 use Rattle.keylengths.specs.KeyLengths.{saidLength, blockLength}
 use Rattle.keyblocks.specs.KeyBlocks.{keyBlock}
-use Rattle.keys.specs.Keys.{type001, type002, typeFFF, onlyUOrT, onlyS, keyType, hexKey, letterU, letterT, letterS, admitted, lettered, key}
+use Rattle.keys.specs.Keys.{type001, type002, typeFFF, onlyUOrT, onlyS, keyType, hexKey, letterU, letterT, letterS, anyLetter, admitted, lettered, key}
 use Rattle.keys.specs.declared.Letters.{Letters}
 use Rattle.weakfield.specs.WeakField.{noneAt, weakField}
 use Rattle.weakfield.specs.WeakField as list
 use Rattle.formatfield.specs.FormatField.{allows, formatField}
 use Rattle.validationfield.specs.ValidationField.{validationField}
+use Rattle.offsetfield.specs.OffsetField.{offsetField}
+use Rattle.offsetfield.proofs.Laws.{offset-refuses}
 use Rattle.keyfields.specs.KeyFields.{keyPair, keys}
 use Rattle.sealed.specs.Sealed.{sealed}
 use Rattle.offsetting.specs.Offsetting.{offsetting}
@@ -41,6 +43,7 @@ use Rattle.weaklist.specs.WeakList.{weak}
 use Rattle.endings.specs.Endings.{allAgree, lastId, closed, end}
 use Rattle.keyfields.specs.declared.Keys.{Keys}
 use Rattle.bkfields.specs.BkFields.{weakMark, bkFields}
+use Rattle.verifyfields.specs.VerifyFields.{maximum, front, restricted, verifyFields}
 use Rattle.claims_blocks.specs.Promises.{listed}
 use Rattle.claims_blocks.proofs.Judged.{Only, done-only, refused-only, test-only, then-only}
 
@@ -307,3 +310,27 @@ fields-give restricted s at =
     (λ inputs at₁₀. onward-only OfBk (weak 10 weakMark s at₁₀) _ (wider weakNumbers fieldNumbers _ refl (listing-gives 10 weakMark s at₁₀))
     (λ pins at₁₁. onward-only OfBk (end 11 ks s at₁₁) _ (wider sharedNumbers fieldNumbers _ refl (end-gives 11 ks s at₁₁))
     (λ mark past. done-only OfBk _)))))
+
+-- ---- DA and EA
+
+-- 15
+offset-gives : (cs : List ℕ) → Only OfFields (offsetField cs)
+offset-gives cs q e = subst OfFields (sym (offset-refuses cs q e)) refl
+
+front-gives : (for : Use) (s : List ℕ) (at : ℕ) → Only OfFields (outcome (front for s at))
+unfolding front
+front-gives for s at =
+    onward-only OfFields (keyPair 1 anyLetter for anyLetter verifyingPvk s at) _ (pair-gives 1 anyLetter for anyLetter verifyingPvk s at)
+    (λ ks at₃. fielded-only OfFields 3 at₃ (number maximum maximum Field15 (drop at₃ s)) _ (number-only OfFields maximum maximum Field15 refl (drop at₃ s))
+    (λ _ next. done-only OfFields ks))
+
+-- they are refused for nothing but what commands share
+pub verify-fields-give : (for : Use) (s : List ℕ) (at : ℕ) → Only OfFields (outcome (verifyFields for s at))
+unfolding verifyFields
+verify-fields-give for s at =
+    onward-only OfFields (front for s at) _ (front-gives for s at)
+    (λ ks at₄. onward-only OfFields (sealed 4 restricted s at₄) _ (sealed-gives 4 restricted s at₄)
+    (λ block at₆. onward-only OfFields (offsetting 6 s at₆) _ (offsetting-gives 6 s at₆)
+    (λ inputs at₁₀. fielded-only OfFields 10 at₁₀ (offsetField (drop at₁₀ s)) _ (offset-gives (drop at₁₀ s))
+    (λ digits at₁₁. onward-only OfFields (end 11 ks s at₁₁) _ (end-gives 11 ks s at₁₁)
+    (λ mark past. done-only OfFields _)))))

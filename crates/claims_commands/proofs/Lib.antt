@@ -1,6 +1,8 @@
 pub mod Fields
 pub mod Shapes
 pub mod Listing
+pub mod VerifyLayout
+pub mod Verifying
 pub mod Alike
 pub mod Told
 pub mod Differences

@@ -21,13 +21,14 @@ use Rattle.offsettexts.proofs.Laws.{text-length}
 use Rattle.offsets.specs.Offsets.{offsetFor}
 use Rattle.frame.specs.Frame.{isFramed, codeOf, opening}
 use Rattle.frame.specs.declared.Code.{Code}
-use Rattle.frame.specs.declared.Code.the-variants.{Bk, Other}
+use Rattle.frame.specs.declared.Code.the-variants.{Bk, Da, Ea, Other}
 use Rattle.frame.proofs.Laws.{framed-bounds, opening-length}
 use Rattle.fields.specs.Fields.{unpointed, heard}
 use Rattle.fields.proofs.Rulings.{heard-done}
 use Rattle.weak.specs.Weak.{isOn, weakPins}
 use Rattle.responses.specs.Responses.{Payload, answerText, responding}
 use Rattle.bkfinish.specs.BkFinish.{bkFinish}
+use Rattle.verifyfinish.specs.VerifyFinish.{verifyFinish}
 use Rattle.bkfields.specs.declared.Bk as fields
 use Rattle.commands.specs.Commands.{askBy, answerBy, opened, asking, asked, answered, commanded, silently}
 use Rattle.commands.proofs.Laws.{asked-block}
@@ -35,11 +36,12 @@ use Rattle.claims_blocks.specs.Promises.{listed}
 use Rattle.claims_blocks.proofs.Judged.{Only, done-only, refused-only, test-only, then-only}
 use Rattle.claims_numbers.proofs.Numbers.{never-00}
 use Rattle.claims_numbers.proofs.Refused.{covers-only}
-use Rattle.claims_commands.specs.Runs.{codeIn, pairIn}
-use Rattle.claims_commands.specs.Numbers.{askNumbers, answerNumbers, Numbered, AskCounts, DoneCount, AnswerCounts, AskNumbers, AnswerNumbers, VariableNever81}
-use Rattle.claims_commands.proofs.Fields.{listed-passes, In, wider, fieldNumbers, then-heard, fields-give}
+use Rattle.claims_commands.specs.Runs.{codeIn, pairIn, Verifying, terminal, zone, codeFor, keyFor, comparedIn}
+use Rattle.claims_commands.specs.Numbers.{verifyAskNumbers, verifyNumbers, askNumbers, answerNumbers, Numbered, AskCounts, VerifiedCount, DoneCount, AnswerCounts, AskNumbers, AnswerNumbers, VariableNever81}
+use Rattle.claims_commands.proofs.Fields.{listed-passes, In, wider, sharedNumbers, fieldNumbers, then-heard, fields-give, verify-fields-give}
 use Rattle.claims_commands.proofs.Shapes.{pair-only, asked-only, ask-only, answer-only, answer-long}
 use Rattle.claims_commands.proofs.Listing.{bkShape}
+use Rattle.claims_commands.proofs.Verifying.{verifyShape, verdict-only}
 
 -- ---- before the code
 
@@ -89,18 +91,45 @@ bk-only these held settings v g h s at block enciphered =
     (λ q e. held q (wider fieldNumbers others _ refl (fields-give (settings .restricted) s at) q e))
     (λ p rows. then-only these (pairIn s p rows) _ (pair-only these (held Block20 refl) (held Length24 refl) _ _ _) (rest-only these (settings .variable) v (held Weak86 refl) s p))
 
+-- ---- DA and EA
+
+module _ (w : Verifying) (settings : Settings) where
+  verify-asks : (s : List ℕ) (at : ℕ) → Only (In verifyAskNumbers) (heard (askBy (codeFor w) settings s at))
+  unfolding every
+  verify-asks s at =
+      ask-only (verifyShape w settings) (In verifyAskNumbers) s at (wider sharedNumbers verifyAskNumbers _ refl (verify-fields-give (keyFor w) s at))
+      (λ v. asked-only (In verifyAskNumbers) refl s (v .offsetting))
+
+  module _ (g h : Bool) (s : List ℕ) (at : ℕ) (block enciphered : List ℕ) where
+    verify-gives : Only (In verifyNumbers) (heard (answerBy (codeFor w) settings g h s at block enciphered))
+    unfolding verifyFinish every
+    verify-gives =
+        answer-only (verifyShape w settings) (In verifyNumbers) refl refl refl g h s at block enciphered
+        (wider sharedNumbers verifyNumbers _ refl (verify-fields-give (keyFor w) s at))
+        (λ v rows. then-only (In verifyNumbers) (comparedIn s v rows) _ (pair-only (In verifyNumbers) refl refl _ _ _) (verdict-only (In verifyNumbers) refl refl (settings .variable) s v))
+
+    -- 00 brings nothing but the trailer
+    verify-count : (header : ℕ) (d : Payload × ℕ) → answerBy (codeFor w) settings g h s at block enciphered ≡ done d → VerifiedCount header (header + 4 + length (answerText s d))
+    verify-count header d e =
+        let long = answer-long (verifyShape w settings) 0 (λ _ _. refl) g h s at block enciphered d e in
+        (omega arith, omega (arith, long .1))
+
 -- ---- the asking call, by the code
 
 ask-gives : (code : Code) (settings : Settings) (s : List ℕ) (at : ℕ) → Only (In (askNumbers code)) (heard (askBy code settings s at))
 unfolding askBy every
 ask-gives Bk settings s at =
     ask-only (bkShape settings) (In (askNumbers Bk)) s at (wider fieldNumbers (askNumbers Bk) _ refl (fields-give (settings .restricted) s at)) (λ p. asked-only (In (askNumbers Bk)) refl s (p .offsetting))
+ask-gives Da settings s at = verify-asks terminal settings s at
+ask-gives Ea settings s at = verify-asks zone settings s at
 ask-gives Other settings s at = refused-only (In (askNumbers Other)) Code68 refl
 
 -- a code that asks for something has 00
 ask-done : (code : Code) (settings : Settings) (s : List ℕ) (at : ℕ) (w : List ℕ) → askBy code settings s at ≡ done w → listed 0 (askNumbers code) ≡ true
 unfolding askBy
 ask-done Bk settings s at w e = refl
+ask-done Da settings s at w e = refl
+ask-done Ea settings s at w e = refl
 ask-done Other settings s at w e = absurd (let z : _≡_ {A = ℕ} 0 1 = cc in omega arith)
 
 -- ---- the asking call
@@ -127,12 +156,16 @@ ask-numbers settings s room = (
 two-digits : (code : Code) → every (λ m. ltb m 100) (answerNumbers code) ≡ true
 unfolding every
 two-digits Bk = refl
+two-digits Da = refl
+two-digits Ea = refl
 two-digits Other = refl
 
 module _ (settings : Settings) (g h : Bool) (s block enciphered : List ℕ) where
   answer-gives : (code : Code) (at : ℕ) → Only (In (answerNumbers code)) (heard (answerBy code settings g h s at block enciphered))
   unfolding answerBy every
   answer-gives Bk at = bk-only (In (answerNumbers Bk)) (λ q. listed-passes (λ m. listed m (answerNumbers Bk)) (numberOf q) others refl) settings (λ _. refl) g h s at block enciphered
+  answer-gives Da at = verify-gives terminal settings g h s at block enciphered
+  answer-gives Ea at = verify-gives zone settings g h s at block enciphered
   answer-gives Other at = refused-only (In (answerNumbers Other)) Code68 refl
 
   -- a code that answers something has 00, and as many bytes go with it as are said: BK brings an offset
@@ -142,6 +175,8 @@ module _ (settings : Settings) (g h : Bool) (s block enciphered : List ℕ) wher
   answer-done Bk at header d e =
       let long = answer-long (bkShape settings) 12 (λ ds f. text-length ds (f .0)) g h s at block enciphered d e in
       (refl, (omega (arith, long .0), omega (arith, long .1)))
+  answer-done Da at header d e = (refl, verify-count terminal settings g h s at block enciphered header d e)
+  answer-done Ea at header d e = (refl, verify-count zone settings g h s at block enciphered header d e)
   answer-done Other at header d e = absurd (let z : _≡_ {A = ℕ} 0 1 = cc in omega arith)
 
   -- so of a command that has a frame: what it is refused for

@@ -7,19 +7,29 @@ use lib.ListN.{length}
 use Rattle.numbers.specs.Promise.{Said, quietly}
 use Rattle.settings.specs.declared.Settings.{Settings}
 use Rattle.frame.specs.declared.Code.{Code}
-use Rattle.frame.specs.declared.Code.the-variants.{Bk, Other}
+use Rattle.frame.specs.declared.Code.the-variants.{Bk, Da, Ea, Other}
 use Rattle.commands.specs.Commands.{asked, answered}
 use Rattle.claims_blocks.specs.Promises.{listed}
 use Rattle.claims_commands.specs.Runs.{codeIn}
 
--- behind the frame, by the command's code: the fields' numbers
+-- behind the frame, by the command's code: the fields' numbers. DA and EA have no weak list
+abbrev pub verifyAskNumbers : List ℕ
+verifyAskNumbers = 0 ∷ 15 ∷ 23 ∷ 25 ∷ 26 ∷ 29 ∷ 69 ∷ []
+
 abbrev pub askNumbers : Code → List ℕ
 askNumbers Bk = 0 ∷ 3 ∷ 15 ∷ 23 ∷ 25 ∷ 26 ∷ 29 ∷ 69 ∷ []
+askNumbers Da = verifyAskNumbers
+askNumbers Ea = verifyAskNumbers
 askNumbers Other = 68 ∷ []
 
--- the same, parity and block; of BK check length and weak list, and no verdict
+-- the same, parity and block, and check length; of BK the weak list and no verdict, of DA and EA the verdict and no weak list
+abbrev pub verifyNumbers : List ℕ
+verifyNumbers = 0 ∷ 1 ∷ 10 ∷ 11 ∷ 15 ∷ 20 ∷ 23 ∷ 24 ∷ 25 ∷ 26 ∷ 29 ∷ 69 ∷ 81 ∷ []
+
 abbrev pub answerNumbers : Code → List ℕ
 answerNumbers Bk = 0 ∷ 3 ∷ 10 ∷ 11 ∷ 15 ∷ 20 ∷ 23 ∷ 24 ∷ 25 ∷ 26 ∷ 29 ∷ 69 ∷ 81 ∷ 86 ∷ []
+answerNumbers Da = verifyNumbers
+answerNumbers Ea = verifyNumbers
 answerNumbers Other = 68 ∷ []
 
 -- 901 and 902 come before any code
@@ -31,9 +41,14 @@ abbrev pub AskCounts : Said ℕ → Type 0
 AskCounts said = (said .number ≡ 0 → length (said .written) ≡ 8) × ((said .number ≡ 0 → ⊥) → said .written ≡ [])
 
 -- how many bytes go with 00, by the command's code: header, response code and number, what the command brings, and at most 33 bytes
--- of trailer with its mark. BK brings twelve characters of offset; another code has no 00
+-- of trailer with its mark. BK brings twelve characters of offset, DA and EA nothing; another code has no 00
+abbrev pub VerifiedCount : ℕ → ℕ → Type 0
+VerifiedCount header n = (header + 4 ≤ n) × (n ≤ header + 37)
+
 abbrev pub DoneCount : Code → ℕ → ℕ → Type 0
 DoneCount Bk header n = (header + 16 ≤ n) × (n ≤ header + 49)
+DoneCount Da header n = VerifiedCount header n
+DoneCount Ea header n = VerifiedCount header n
 DoneCount Other header n = ⊥
 
 -- "901 and 902 write nothing. Any other refusal by the answering call writes header, response code and two-digit number"

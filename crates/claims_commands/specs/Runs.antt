@@ -11,9 +11,13 @@ use Rattle.frame.specs.declared.Code.{Code}
 use Rattle.frame.specs.declared.Code.the-variants as code
 use Rattle.fields.specs.Fields as field
 use Rattle.keybox.specs.KeyBox as keybox
+use Rattle.uses.specs.Uses as uses
+use Rattle.uses.specs.declared.Use.{Use}
 use Rattle.pairing.specs.Pairing.{pairAt}
 use Rattle.bkfields.specs.BkFields.{bkFields}
 use Rattle.bkfields.specs.declared.Bk.{Bk}
+use Rattle.verifyfields.specs.VerifyFields.{verifyFields}
+use Rattle.verifyfields.specs.declared.Verification.{Verification}
 use Rattle.responses.specs.Responses.{roomToAnswer}
 use Rattle.claims_alike.specs.Alike.{Outside}
 
@@ -60,3 +64,28 @@ pairIn s p rows = pairAt s (p .sealed) (p .offsetting) rows
 abbrev pub Reads : Settings → Bool → Bool → ℕ → List ℕ → List ℕ → List ℕ → Type 0
 Reads settings pinKeyGood pvkGood room s block enciphered =
     Finds code.Bk (bkFields (settings .restricted)) (keybox.boxed (length s) pinKeyGood pvkGood block enciphered) pairIn (settings .header) room s
+
+-- ---- of DA and EA
+
+-- the two commands that verify a PIN under a terminal's or a zone's key, so that what holds of both is said once
+pub data Verifying : Type 0 where
+  terminal : Verifying
+  zone : Verifying
+
+-- the code, and the PIN key's use
+abbrev pub codeFor : Verifying → Code
+codeFor terminal = code.Da
+codeFor zone = code.Ea
+
+abbrev pub keyFor : Verifying → Use
+keyFor terminal = uses.terminalKey
+keyFor zone = uses.zoneKey
+
+-- its PIN and its natural PIN
+abbrev pub comparedIn : List ℕ → Verification → List ℕ × List ℕ → Outcome (List ℕ × List ℕ)
+comparedIn s v rows = pairAt s (v .sealed) (v .offsetting) rows
+
+-- a run that is not refused before its PIN is read
+abbrev pub FindsPin : Verifying → Settings → Bool → Bool → ℕ → List ℕ → List ℕ → List ℕ → Type 0
+FindsPin w settings pinKeyGood pvkGood room s block enciphered =
+    Finds (codeFor w) (verifyFields (keyFor w)) (keybox.boxed (length s) pinKeyGood pvkGood block enciphered) comparedIn (settings .header) room s

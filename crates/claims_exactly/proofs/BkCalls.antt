@@ -2,12 +2,10 @@
 -- Assumes nothing.
 use Prim.Native.Nat.{ℕ, _+_}
 use native.Mathlib.Omega.{arith}
-use mathlib.Core.Path.{_≡_, refl, _∙_}
-use mathlib.Core.List.{List, _++_}
-use mathlib.Core.Bool.{Bool, true, false, cond}
-use Rattle.alphabet.specs.Alphabet.{begins}
+use mathlib.Core.Path.{refl, _∙_}
+use mathlib.Core.List.{List}
+use mathlib.Core.Bool.{Bool}
 use Rattle.settings.specs.declared.Settings.{Settings}
-use Rattle.frame.specs.Frame.{bk, codeOf}
 use Rattle.frame.specs.declared.Code.the-variants as codes
 use Rattle.bkfields.specs.BkFields.{bkFields}
 use Rattle.bkfields.specs.declared.Bk.{Bk}
@@ -19,6 +17,7 @@ use Rattle.claims_exactly.specs.BkText.{BkParts, IsBk}
 use Rattle.claims_exactly.specs.Claims.{bkCommand, bkPlaced, Stand}
 use Rattle.claims_exactly.specs.Sent.{IsHeader}
 use Rattle.claims_exactly.specs.Responses.{bkSent, accountDigits, AsksParts, AnswersParts}
+use Rattle.claims_exactly.proofs.Codes.{code-told, bk-coded}
 use Rattle.claims_exactly.proofs.Claims.{parts-stand, bk-exactly}
 use Rattle.claims_exactly.proofs.Sizes.{bk-size}
 use Rattle.claims_exactly.proofs.Sent.{Known, sent-fields}
@@ -34,19 +33,8 @@ bkKnown restricted = record {
   short = λ p g. let size = bk-size restricted p g in omega arith;
 }
 
-pub bk-coded : (cs : List ℕ) → codeOf (bk ++ cs) ≡ codes.Bk
-unfolding begins
-bk-coded cs = refl
-
-pub bk-begun : (cs : List ℕ) → codeOf cs ≡ codes.Bk → begins bk cs ≡ true
-bk-begun cs = by (begins bk cs)
-  where
-    by : (b : Bool) → cond b codes.Bk codes.Other ≡ codes.Bk → b ≡ true
-    by true h = refl
-    by false h = absurd (let z : _≡_ {A = ℕ} 0 1 = cc in omega arith)
-
 abbrev pub bkCalled : (settings : Settings) → Called (bkShape settings)
-bkCalled settings = record { known = bkKnown (settings .restricted); fields = λ s at. refl; coded = bk-coded; begun = bk-begun; gives = fields-give (settings .restricted) }
+bkCalled settings = record { known = bkKnown (settings .restricted); fields = λ s at. refl; coded = bk-coded; begun = λ cs. code-told cs codes.Bk; gives = fields-give (settings .restricted) }
 
 module _ (settings : Settings) (header : List ℕ) (p : BkParts) (h : IsHeader (settings .header) header) (g : IsBk (settings .restricted) p) where
   sent-stand : Stand (bkSent settings header p) (bkPlaced (settings .header + 2) p) p

@@ -1,4 +1,4 @@
--- The claims about BK's fields.
+-- The claims about the fields of BK, and of DA and EA.
 -- Assumes nothing.
 use Prim.Native.Nat.{ℕ, _+_}
 use mathlib.Core.Path.{_≡_, refl, sym, ap, _∙_}
@@ -8,19 +8,26 @@ use lib.Seq.{take-at, drop-at, drop-drop}
 use Rattle.alphabet.specs.Alphabet.{valueOf}
 use Rattle.weak.specs.Weak.{entries, weakPins}
 use Rattle.bkfields.specs.BkFields.{bkFields}
+use Rattle.verifyfields.specs.VerifyFields.{verifyFields}
 use Rattle.texts.specs.Texts.{together, Optional, absent, present, WherePresent, optionalText}
 use Rattle.texts.proofs.Closing.{past-text, stands-at}
 use Rattle.texts.proofs.Whole.{exactly}
 use Rattle.texts_keys.specs.KeyTexts.{idText}
-use Rattle.texts_data.specs.DataTexts.{WeakList, noPins, pins, weakText, AreEntries, IsWeakList, markOfWeakList, weakPinsOf, formatText}
+use Rattle.texts_data.specs.DataTexts.{WeakList, noPins, pins, weakText, AreEntries, IsWeakList, markOfWeakList, weakPinsOf, formatText, presentedText}
 use Rattle.texts_data.specs.DataWritings.{weakIn}
 use Rattle.texts_stages.specs.StageTexts.{keysText, sealedText, inputsText}
 use Rattle.texts_stages.proofs.Stages.{inputs-stand}
-use Rattle.claims_exactly.specs.Claims.{bkCommand, BkExactly, PartsStand}
+use Rattle.claims_commands.specs.Runs.{keyFor}
+use Rattle.claims_exactly.specs.VerifyText.{frontText}
+use Rattle.claims_exactly.specs.Claims.{bkCommand, BkExactly, PartsStand, verifyCommand, VerifyExactly, VerifyPartsStand}
 use Rattle.claims_exactly.proofs.BkFields.{bk-exact}
+use Rattle.claims_exactly.proofs.VerifyFields.{verify-exact}
 
 pub bk-exactly : BkExactly
 bk-exactly restricted = exactly (bkCommand restricted) (bkFields restricted) (bk-exact restricted)
+
+pub verify-exactly : VerifyExactly
+verify-exactly w = exactly (verifyCommand w) (verifyFields (keyFor w)) (verify-exact w)
 
 -- ---- what stands at the places
 
@@ -53,5 +60,22 @@ parts-stand restricted s at₁ p g e₁ =
       block = stands-at s at₄ 16 (p .sealed .block) _ (g .sealed .block .0) (e₄ ∙ append-assoc (p .sealed .block) (formatText (p .sealed .format)) _);
       inputs = inputs-stand s at₆ (p .inputs) _ (g .inputs) e₆;
       weak = weak-read s at₁₀ (p .weak) _ (g .weak) e₁₀;
+      trailer = past-text s at₁₁ (idText (p .end .id)) _ e₁₁;
+    }
+
+pub verify-parts-stand : VerifyPartsStand
+verify-parts-stand w s at₁ p g e₁ =
+    let at₄ = at₁ + length (frontText (p .keys)) in
+    let at₆ = at₄ + length (sealedText (p .sealed)) in
+    let at₁₀ = at₆ + length (inputsText (p .inputs)) in
+    let at₁₁ = at₁₀ + length (presentedText (p .offset)) in
+    let e₄ = past-text s at₁ (frontText (p .keys)) _ e₁ in
+    let e₆ = past-text s at₄ (sealedText (p .sealed)) _ e₄ in
+    let e₁₀ = past-text s at₆ (inputsText (p .inputs)) _ e₆ in
+    let e₁₁ = past-text s at₁₀ (presentedText (p .offset)) _ e₁₀ in
+    record {
+      block = stands-at s at₄ 16 (p .sealed .block) _ (g .sealed .block .0) (e₄ ∙ append-assoc (p .sealed .block) (formatText (p .sealed .format)) _);
+      inputs = inputs-stand s at₆ (p .inputs) _ (g .inputs) e₆;
+      offset = stands-at s at₁₀ (length (p .offset)) (p .offset) _ refl (e₁₀ ∙ append-assoc (p .offset) _ _);
       trailer = past-text s at₁₁ (idText (p .end .id)) _ e₁₁;
     }

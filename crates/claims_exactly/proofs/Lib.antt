@@ -1,9 +1,13 @@
 pub mod BkFields
+pub mod VerifyFields
 pub mod Claims
 pub mod Sizes
 pub mod Sent
 pub mod Calls
+pub mod Codes
 pub mod BkCalls
+pub mod VerifyCalls
 pub mod Held
 pub mod Responses
 pub mod Typed
+pub mod VerifyTyped

@@ -1,23 +1,28 @@
--- How long the stages of a command can be, and BK: well within the paper's 4,096 bytes.
+-- How long the stages of a command can be, and so BK, DA and EA: well within the paper's 4,096 bytes.
 -- Assumes nothing.
 use Prim.Native.Nat.{ℕ, _+_, _≤_}
 use native.Mathlib.Nat.{mul-le-mul}
 use native.Mathlib.Omega.{arith}
+use mathlib.Core.Path.{sym, subst}
 use mathlib.Core.List.{List, _∷_, _++_}
-use mathlib.Core.Bool.{Bool}
+use mathlib.Core.Bool.{Bool, false}
 use lib.ListN.{length, length-append}
 use Rattle.formats.specs.declared.Format.{Format}
 use Rattle.formats.specs.declared.Format.the-variants.{F01, F03, F05, F34, F35, F47}
-use Rattle.uses.specs.Uses.{pinKey, pvk}
+use Rattle.uses.specs.Uses.{pinKey, pvk, verifyingPvk}
 use Rattle.uses.specs.declared.Use.{Use}
 use Rattle.texts.specs.Texts.{asTwoDigits, Optional, absent, present, WherePresent, optionalText, IsTrailer, trailerText}
-use Rattle.texts_keys.specs.KeyTexts.{KeyType, is001, is002, isFFF, typeText, Key, bare, double, triple, block, keyText, IsKey, idText}
+use Rattle.texts_keys.specs.KeyTexts.{KeyType, is001, is002, isFFF, typeText, KeyRule, Key, bare, double, triple, block, keyText, IsKey, idText}
 use Rattle.texts_keys.specs.KeyWritings.{ruleFor}
 use Rattle.texts_keys.proofs.KeyBlocks.{block-long}
-use Rattle.texts_data.specs.DataTexts.{formatText, Validation, withN, withP, validationText, IsValidation, WeakList, noPins, pins, weakText, IsWeakList, markOfWeakList}
+use Rattle.texts_data.specs.DataTexts.{formatText, Validation, withN, withP, validationText, IsValidation, WeakList, noPins, pins, weakText, IsWeakList, markOfWeakList, maximumText, presentedText}
 use Rattle.texts_data.proofs.WeakLists.{entries-long}
-use Rattle.texts_stages.specs.StageTexts.{KeyFields, keysText, AreKeys, SealedFields, sealedText, AreSealed, InputFields, inputsText, AreInputs, EndFields, endText, AreEnd}
+use Rattle.texts_data.proofs.Offsets.{presented-long}
+use Rattle.texts_stages.specs.StageTexts.{pairText, KeyFields, keysText, AreKeys, SealedFields, sealedText, AreSealed, InputFields, inputsText, AreInputs, EndFields, endText, AreEnd}
+use Rattle.claims_commands.specs.Runs.{Verifying, keyFor}
 use Rattle.claims_exactly.specs.BkText.{BkParts, bkText, IsBk}
+use Rattle.claims_exactly.specs.VerifyText.{pinKeyRuleOf, VerifyParts, frontText, verifyText, IsVerify}
+use Rattle.claims_exactly.proofs.VerifyFields.{key-ruled}
 
 -- one text behind another
 pub both : (xs ys : List ℕ) {m n : ℕ} → length xs ≤ m → length ys ≤ n → length (xs ++ ys) ≤ m + n
@@ -90,3 +95,20 @@ bk-size restricted p g =
     (both (sealedText (p .sealed)) (inputsText (p .inputs) ++ (weak ++ endText (p .end))) (sealed-size restricted (p .sealed) (g .sealed))
     (both (inputsText (p .inputs)) (weak ++ endText (p .end)) (inputs-size (p .inputs) (g .inputs))
     (both weak (endText (p .end)) (weak-size (p .weak) (g .weak)) (end-size (p .end) (g .end)))))
+
+-- ---- DA and EA: 1,141 at most
+
+verify-front-size : (w : Verifying) (p : VerifyParts) → IsVerify (pinKeyRuleOf w) p → length (frontText (p .keys)) ≤ 1028
+verify-front-size w p g =
+    let first = subst (λ (r : KeyRule). IsKey r (p .keys .first)) (sym (key-ruled w)) (g .pinKey .is) in
+    both (pairText (p .keys)) maximumText {n = 2}
+    (both (keyText (p .keys .first)) (keyText (p .keys .second)) (key-size (keyFor w) (p .keys .first) first) (key-size verifyingPvk (p .keys .second) (g .pvk .is)))
+    (omega arith)
+
+pub verify-size : (w : Verifying) (p : VerifyParts) → IsVerify (pinKeyRuleOf w) p → length (verifyText p) ≤ 1141
+verify-size w p g =
+    let offset = presentedText (p .offset) in
+    both (frontText (p .keys)) (sealedText (p .sealed) ++ (inputsText (p .inputs) ++ (offset ++ endText (p .end)))) (verify-front-size w p g)
+    (both (sealedText (p .sealed)) (inputsText (p .inputs) ++ (offset ++ endText (p .end))) (sealed-size false (p .sealed) (g .sealed))
+    (both (inputsText (p .inputs)) (offset ++ endText (p .end)) (inputs-size (p .inputs) (g .inputs))
+    (both offset (endText (p .end)) {m = 12} (omega (arith, presented-long (p .offset) (g .offset))) (end-size (p .end) (g .end)))))

@@ -76,7 +76,7 @@ spare-is-bk = (spare-is, refl)
 
 -- ---- behind a header
 
-header-is : IsHeader 4 (printed "HDR1")
+pub header-is : IsHeader 4 (printed "HDR1")
 unfolding allOf
 header-is = (omega arith, (refl, refl))
 

@@ -13,12 +13,12 @@ use Rattle.nibbles.specs.Nibbles.{leading}
 use Rattle.nibbles.proofs.Lists.{and-left, and-right}
 use Rattle.nibbles.proofs.Runs.{leading-take}
 use Rattle.alphabet.specs.Alphabet.{admits, allOf, valueOf}
-use Rattle.alphabet.specs.declared.Class.{Class}
 use Rattle.alphabet.specs.declared.Class.the-variants.{CapitalHex}
 use Rattle.numbers.specs.Numbers.{done, andThen, unless}
 use Rattle.numbers.specs.declared.Refusal.the-variants.{Field15}
 use Rattle.numbers.proofs.Laws.{then-done, passed}
 use Rattle.pins.specs.Pins.{lastOf}
+use Rattle.offsettexts.proofs.Fill.{leading-all}
 use Rattle.validation.specs.Validation.{hexEnd, isTemplate, isWhole, widthOf, shapeOf, formed, isValidation, shaped, validationRow}
 use Rattle.validation.proofs.Laws.{led-by-p}
 use Rattle.validation.specs.declared.Shape.{Shape}
@@ -96,15 +96,6 @@ data-back (withN front back) rest g =
 
 -- ---- nothing else is read
 
-lead-all : (k : Class) (cs : List ℕ) → allOf k (leading (admits k) cs) ≡ true
-unfolding allOf leading
-lead-all k [] = refl
-lead-all k (c ∷ cs) = by (lead-all k cs) (admits k c) refl
-  where
-    by : allOf k (leading (admits k) cs) ≡ true → (b : Bool) → admits k c ≡ b → allOf k (cond b (c ∷ leading (admits k) cs) []) ≡ true
-    by r true h = rw h r
-    by r false h = refl
-
 -- where a character stands, there is one
 inside : (t : List ℕ) (k c : ℕ) → getD t k 0 ≡ suc c → k < length t
 inside t k c n = by (leb (suc k) (length t)) refl
@@ -126,7 +117,7 @@ template-parts t h =
     let front = take k t in
     let back = drop (suc k) t in
     let fl : length front ≡ k = length-take-le k t (omega arith) in
-    let led : allOf CapitalHex front ≡ true = ap (allOf CapitalHex) (sym (leading-take (admits CapitalHex) t)) ∙ lead-all CapitalHex t in (
+    let led : allOf CapitalHex front ≡ true = ap (allOf CapitalHex) (sym (leading-take (admits CapitalHex) t)) ∙ leading-all CapitalHex t in (
       front,
       back,
       split-at t k 0 within ∙ ap (λ (x : ℕ). front ++ (x ∷ back)) n,

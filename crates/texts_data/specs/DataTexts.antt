@@ -1,9 +1,11 @@
--- Fields 5, 9 and 10: the format, the validation data and the weak PINs.
-use Prim.Native.Nat.{ℕ}
+-- Fields 5, 9 and 10: the format, the validation data and the weak PINs; and DA's and EA's 3 and 10: the maximum PIN length, the offset.
+use Prim.Native.Char.{code}
+use Prim.Native.Nat.{ℕ, _-_}
 use mathlib.Core.Bool.{Bool, true, false}
 use mathlib.Core.List.{List, [], _∷_, _++_, map}
-use lib.ListN.{length}
-use Rattle.alphabet.specs.Alphabet.{valueOf}
+use mathlib.Core.Path.{_≡_}
+use lib.ListN.{length, replicate}
+use Rattle.alphabet.specs.Alphabet.{allOf, valueOf}
 use Rattle.alphabet.specs.declared.Class.the-variants.{Digit, CapitalHex}
 use Rattle.formats.specs.declared.Format.{Format}
 use Rattle.formats.specs.declared.Format.the-variants.{F01, F03, F05, F34, F35, F47}
@@ -74,3 +76,14 @@ abbrev pub weakPinsOf : Optional WeakList → List (List ℕ)
 weakPinsOf absent = []
 weakPinsOf (present noPins) = []
 weakPinsOf (present (pins size es)) = map (map valueOf) es
+
+-- the maximum PIN length: the two characters `12`
+abbrev pub maximumText : List ℕ
+maximumText = printed "12"
+
+-- "the 12-character offset: 4 to 12 digits, then only F": of its digits, as many F behind them as fill twelve
+abbrev pub presentedText : List ℕ → List ℕ
+presentedText digits = digits ++ replicate (12 - length digits) (code "F")
+
+abbrev pub IsPresented : List ℕ → Type 0
+IsPresented digits = Within 4 12 (length digits) × (allOf Digit digits ≡ true)

@@ -1,4 +1,4 @@
--- How formats, validation data and weak lists are written, with what the readers read of each.
+-- How formats, validation data, weak lists, maximum and offset are written, with what the readers read of each.
 use Prim.Native.Nat.{ℕ, _+_}
 use mathlib.Core.Path.{_≡_}
 use mathlib.Core.List.{List, [], _∷_}
@@ -12,7 +12,7 @@ use Rattle.weakfield.specs.WeakField.{noneAt}
 use Rattle.weak.specs.declared.Weak.{Weak}
 use Rattle.texts.specs.Texts.{Optional, absent, present, optionalText}
 use Rattle.texts.specs.Exact.{Writing}
-use Rattle.texts_data.specs.DataTexts.{formatText, Allows, Validation, withN, withP, validationText, IsValidation, WeakList, noPins, pins, weakText, IsWeakList}
+use Rattle.texts_data.specs.DataTexts.{formatText, Allows, Validation, withN, withP, validationText, IsValidation, WeakList, noPins, pins, weakText, IsWeakList, maximumText, presentedText, IsPresented}
 
 -- a format that is allowed
 abbrev pub formats : Bool → Writing Format
@@ -39,3 +39,11 @@ weakFine mark (present w) rest = IsWeakList w
 
 abbrev pub weakLists : ℕ → ℕ → Writing Weak
 weakLists mark at = record { Part = Optional WeakList; fine = weakFine mark; text = optionalText (mark ∷ []) weakText; value = weakIn at }
+
+-- the maximum has no choice
+abbrev pub maxima : Writing ℕ
+maxima = record { Part = Unit {0}; fine = λ _ _. Unit {0}; text = λ _. maximumText; value = λ _. 12 }
+
+-- of an offset how many digits it has is read
+abbrev pub offsets : Writing ℕ
+offsets = record { Part = List ℕ; fine = λ digits _. IsPresented digits; text = presentedText; value = length }

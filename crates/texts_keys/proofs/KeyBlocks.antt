@@ -23,9 +23,9 @@ use Rattle.lmk.specs.declared.Lmk.the-variants.{Id}
 use Rattle.uses.specs.Uses.{usagesIn, algorithmT, modesIn, beginsOne, isOne, permits}
 use Rattle.uses.specs.declared.Use.{Use}
 use Rattle.uses.specs.declared.Usages.{Usages}
-use Rattle.uses.specs.declared.Usages.the-variants.{P0Or71Or72, V1}
+use Rattle.uses.specs.declared.Usages.the-variants.{P0Or71Or72, P0Or71, P0Or72, V1}
 use Rattle.uses.specs.declared.Modes.{Modes}
-use Rattle.uses.specs.declared.Modes.the-variants.{BOrDOrN, COrGOrN}
+use Rattle.uses.specs.declared.Modes.the-variants.{BOrDOrN, COrGOrN, COrVOrN}
 use Rattle.keylengths.specs.KeyLengths.{saidLength, blockLength}
 use Rattle.keylengths.proofs.Laws.{length-whole, length-found}
 use Rattle.keyblocks.specs.KeyBlocks.{keyBlock}
@@ -65,12 +65,15 @@ Pairs (t ∷ ts) = Run Printable 2 t × Pairs ts
 usages-pairs : (u : Usages) → Pairs (usagesIn u)
 unfolding Pairs allOf
 usages-pairs P0Or71Or72 = ((refl, refl), ((refl, refl), ((refl, refl), tt)))
+usages-pairs P0Or71 = ((refl, refl), ((refl, refl), tt))
+usages-pairs P0Or72 = ((refl, refl), ((refl, refl), tt))
 usages-pairs V1 = ((refl, refl), tt)
 
 modes-printable : (m : Modes) → allOf Printable (modesIn m) ≡ true
 unfolding allOf
 modes-printable BOrDOrN = refl
 modes-printable COrGOrN = refl
+modes-printable COrVOrN = refl
 
 -- one test of two
 or-else : {P Q : Type 0} (a b : Bool) → (a ≡ true → P) → (b ≡ true → Q) → (a || b) ≡ true → P ⊎ Q

@@ -19,11 +19,11 @@ use Rattle.fields.specs.Fields.{Found, run, number, marked}
 use Rattle.lmk.specs.Lmk.{lmkMark, lmkField, agree}
 use Rattle.lmk.specs.declared.Lmk.{Lmk}
 use Rattle.lmk.specs.declared.Lmk.the-variants.{Absent, Id}
-use Rattle.uses.specs.Uses.{pinKey, pvk}
+use Rattle.uses.specs.Uses.{pinKey, pvk, terminalKey, zoneKey, verifyingPvk}
 use Rattle.uses.specs.declared.Use.{Use}
 use Rattle.keyblocks.specs.KeyBlocks.{keyBlock}
 use Rattle.keys.specs.Keys as reader
-use Rattle.keys.specs.Keys.{onlyUOrT, onlyS, keyType, hexKey, letterU, letterT, letterS, admitted, lettered, key}
+use Rattle.keys.specs.Keys.{onlyUOrT, onlyS, anyLetter, keyType, hexKey, letterU, letterT, letterS, admitted, lettered, key}
 use Rattle.keys.specs.declared.Letters.{Letters}
 use Rattle.texts.specs.Texts.{Run, Optional, absent, present}
 use Rattle.texts.specs.Exact.{Writing, Opens, Exact}
@@ -32,7 +32,7 @@ use Rattle.texts.specs.Writings.{runs, numbers}
 use Rattle.texts.proofs.Runs.{begins-split, all-first}
 use Rattle.texts.proofs.Closing.{apart-of, exact-as}
 use Rattle.texts.proofs.Readers.{mapped-exact, some-exact, either-exact, optional-exact, run-exact, number-exact}
-use Rattle.texts_keys.specs.KeyTexts.{KeyType, is001, is002, isFFF, typeText, pinKeyRule, pvkRule, Key, bare, double, triple, block, keyText, Wants, keyIds, ownIds, AllSame}
+use Rattle.texts_keys.specs.KeyTexts.{KeyType, is001, is002, isFFF, typeText, pinKeyRule, pvkRule, terminalKeyRule, zoneKeyRule, verifyingPvkRule, Key, bare, double, triple, block, keyText, Wants, HasLetter, keyIds, ownIds, AllSame}
 use Rattle.texts_keys.specs.KeyWritings.{lettersOf, types, ruleFor, blocks, Admits, lmkOf, keyed, ids, idsRead}
 use Rattle.texts_keys.proofs.KeyBlocks.{block-exact}
 
@@ -250,12 +250,40 @@ wanted-admitted is001 k = hex-wanted k
 wanted-admitted is002 k = hex-wanted k
 wanted-admitted isFFF k = block-wanted k
 
--- the uses of a PIN key and of a PVK are the paper's rules
+-- where there is no type, those of any letter
+pub letter-admitted : (k : Key) → HasLetter k ↔ Admits anyLetter k
+letter-admitted k = (to k, from k)
+  where
+    to : (k : Key) → HasLetter k → Admits anyLetter k
+    to (bare cs) (inl e) = absurd (omega (arith, ap lead e))
+    to (bare cs) (inr (inl e)) = absurd (omega (arith, ap lead e))
+    to (bare cs) (inr (inr (inl e))) = absurd (omega (arith, ap lead e))
+    to (bare cs) (inr (inr (inr z))) = absurd z
+    to (double cs) w = refl
+    to (triple cs) w = refl
+    to (block k) w = refl
+
+    from : (k : Key) → Admits anyLetter k → HasLetter k
+    from (bare cs) a = never-admitted a
+    from (double cs) a = inl refl
+    from (triple cs) a = inr (inl refl)
+    from (block k) a = inr (inr (inl refl))
+
+-- the uses of PIN keys and of PVKs are the paper's rules
 pub pin-key-ruled : ruleFor pinKey ≡ pinKeyRule
 pin-key-ruled = refl
 
 pub pvk-ruled : ruleFor pvk ≡ pvkRule
 pvk-ruled = refl
+
+pub terminal-key-ruled : ruleFor terminalKey ≡ terminalKeyRule
+terminal-key-ruled = refl
+
+pub zone-key-ruled : ruleFor zoneKey ≡ zoneKeyRule
+zone-key-ruled = refl
+
+pub verifying-pvk-ruled : ruleFor verifyingPvk ≡ verifyingPvkRule
+verifying-pvk-ruled = refl
 
 -- the ids that are read are those that are present
 pub key-ids : (k : Key) → idsRead (lmkOf k) ≡ keyIds k

@@ -37,6 +37,17 @@ pinKeyRule = record {
 abbrev pub pvkRule : KeyRule
 pvkRule = record { usages = printed "V1" ∷ []; algorithms = printed "T"; modes = printed "CGN" }
 
+-- the PIN key of DA is a terminal's, P0 or 71, and that of EA a zone's, P0 or 72; T; B, D or N
+abbrev pub terminalKeyRule : KeyRule
+terminalKeyRule = record { usages = printed "P0" ∷ (printed "71" ∷ []); algorithms = printed "T"; modes = printed "BDN" }
+
+abbrev pub zoneKeyRule : KeyRule
+zoneKeyRule = record { usages = printed "P0" ∷ (printed "72" ∷ []); algorithms = printed "T"; modes = printed "BDN" }
+
+-- the PVK of DA and EA: V1; T; C, V or N
+abbrev pub verifyingPvkRule : KeyRule
+verifyingPvkRule = record { usages = printed "V1" ∷ []; algorithms = printed "T"; modes = printed "CVN" }
+
 -- the parts of a key block but its length; version, algorithm and mode are character codes, the id is a number
 pub record KeyBlock : Type 0 where
   pub version : ℕ
@@ -112,6 +123,13 @@ wanted isFFF = printed "S" ∷ []
 -- so a key, by its letter
 abbrev pub Wants : KeyType → Key → Type 0
 Wants t k = OneOf (letter k) (wanted t)
+
+-- where no key type stands before a key, as in DA and EA, it goes by its own letter
+abbrev pub keyLetters : List (List ℕ)
+keyLetters = printed "U" ∷ (printed "T" ∷ (printed "S" ∷ []))
+
+abbrev pub HasLetter : Key → Type 0
+HasLetter k = OneOf (letter k) keyLetters
 
 -- the "LMK ids present" in a key field: a key block's
 abbrev pub keyIds : Key → List ℕ
