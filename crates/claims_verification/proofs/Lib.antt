@@ -1,0 +1,4 @@
+pub mod Verdicts
+pub mod Exchange
+pub mod Told
+pub mod Witnesses

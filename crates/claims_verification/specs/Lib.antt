@@ -1,0 +1,5 @@
+pub mod Calls
+pub mod Verdicts
+pub mod Exchange
+pub mod Told
+pub mod Witnesses
