@@ -99,4 +99,5 @@ refused-commands = (
   refl,
   refl,
   refl,
+  refl,
 )

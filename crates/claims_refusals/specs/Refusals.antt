@@ -16,7 +16,7 @@ use Rattle.claims_offsets.specs.Figures.{blockP2, encipheredP9}
 use Rattle.claims_figures.specs.Figures.{says}
 use Rattle.claims_commands.specs.Witnesses.{oneListed}
 use Rattle.claims_commands.specs.Cores.{blockP12, paperResponse}
-use Rattle.claims_refusals.specs.Parts.{but, exchange, longer, format05, pvkBlock, trailerEND, header7F, header1F, hdr1b, hdr1nc, type003, keyX, pinKeyBlock2, pinKeyBlockE, pvkBlockB, pinKeyBlockV1, smallHex, format0A, format99, format41, check13, check06, accountA, tableA, shortTableA, validationNN, countA, threeListed, shortList, id10, id01, trailer33, leftX}
+use Rattle.claims_refusals.specs.Parts.{but, exchange, longer, format05, pvkBlock, trailerEND, header7F, header1F, hdr1b, hdr1nc, type003, keyX, pinKeyBlock2, pinKeyBlockE, pvkBlockB, pvkBlockV, pinKeyBlockV1, smallHex, format0A, format99, format41, check13, check06, accountA, tableA, shortTableA, validationNN, countA, threeListed, shortList, id10, id01, trailer33, leftX}
 
 -- ---- what the key box answered
 
@@ -99,6 +99,7 @@ RefusedCommands =
     × BothRefuse (but 2 pinKeyBlock2 longer) 26 (hdr1bl 0x32 0x36)
     × BothRefuse (but 2 pinKeyBlockE longer) 29 (hdr1bl 0x32 0x39)
     × BothRefuse (but 3 pvkBlockB longer) 29 (hdr1bl 0x32 0x39)
+    × BothRefuse (but 3 pvkBlockV longer) 29 (hdr1bl 0x32 0x39)
     × BothRefuse (but 4 smallHex exchange) 15 (hdr1bl 0x31 0x35)
     × BothRefuse (but 5 format0A exchange) 15 (hdr1bl 0x31 0x35)
     × BothRefuse (but 5 format99 exchange) 23 (hdr1bl 0x32 0x33)
