@@ -1,16 +1,17 @@
 //! The asking and the answering call of a host command.
 
 use crate::block;
+use crate::command::{Command, CODE};
 use crate::cursor::printable;
-use crate::fields::{self, Fields};
+use crate::fields::{self, Fields, Task};
 use crate::offset::{self, covered, OFFSET_CHARACTERS};
 use crate::reply::{eight_bytes, lent, Refusal, Reply};
 use crate::settings::Settings;
 
 const LONGEST_COMMAND: usize = 4096;
-const CODE: usize = 2;
 
-/// Header 16, response code 2, number 2, offset 12, trailer with its mark 33.
+/// BK's: header 16, response code 2, number 2, offset 12, trailer with its mark 33. Every command
+/// asks for as much.
 const LONGEST_RESPONSE: usize = 65;
 
 /// A command taken apart as far as its frame goes.
@@ -71,30 +72,32 @@ fn try_answer(
     let frame = Frame::of_command(settings, command)?;
     let mut response = Response { out, written: 0 };
     let number = match judge(settings, &key_box, &frame) {
-        Ok((offset, trailer)) => {
-            response.begin(&frame, 0);
-            response.put(&offset);
-            response.put(trailer);
-            0
-        }
+        Ok((Outcome::Made(offset), trailer)) => response.done(&frame, &offset, trailer),
+        Ok((Outcome::Verifies, trailer)) => response.done(&frame, &[], trailer),
+        // "a verdict 01 writes a short response without a trailer"
+        Ok((Outcome::DoesNotVerify, _)) => response.short(&frame, Reply::DOES_NOT_VERIFY),
         // "A trailer, with its 19 mark, comes back with 00 only."
-        Err(refusal) => {
-            response.begin(&frame, refusal.number());
-            refusal.number()
-        }
+        Err(refusal) => response.short(&frame, refusal.number()),
     };
     Ok(Reply { number, written: response.written as u32 })
 }
 
-/// 68, the fields, what the key box hands over: the offset and the trailer to be sent back.
+/// What comes of a command that nothing refuses.
+enum Outcome {
+    Made([u8; OFFSET_CHARACTERS]),
+    Verifies,
+    DoesNotVerify,
+}
+
+/// 68, the fields, what the key box hands over: the outcome and the command's trailer.
 fn judge<'a>(
     settings: Settings,
     key_box: &KeyBox<'_>,
     frame: &Frame<'a>,
-) -> Result<([u8; OFFSET_CHARACTERS], &'a [u8]), Refusal> {
+) -> Result<(Outcome, &'a [u8]), Refusal> {
     let fields = frame.fields(settings)?;
-    let offset = key_box.offset(settings, &fields)?;
-    Ok((offset, fields.trailer))
+    let outcome = key_box.outcome(settings, &fields)?;
+    Ok((outcome, fields.trailer))
 }
 
 impl<'a> Frame<'a> {
@@ -114,10 +117,7 @@ impl<'a> Frame<'a> {
 
     /// 68, then the fields.
     fn fields(&self, settings: Settings) -> Result<Fields<'a>, Refusal> {
-        if &self.code != b"BK" {
-            return Err(Refusal::CommandCode);
-        }
-        fields::read(settings, self.body)
+        fields::read(Command::of_code(self.code)?, settings, self.body)
     }
 
     /// "the command code with its second byte raised by one (255 becomes 0)".
@@ -127,27 +127,34 @@ impl<'a> Frame<'a> {
 }
 
 impl KeyBox<'_> {
-    /// "two slices that are not 8 bytes long (15), 10, 11, the block (20 or 24), 81, 86".
-    fn offset(
-        &self,
-        settings: Settings,
-        fields: &Fields<'_>,
-    ) -> Result<[u8; OFFSET_CHARACTERS], Refusal> {
-        let pin_block = eight_bytes(self.pin_block)?;
-        let enciphered = eight_bytes(self.enciphered)?;
+    /// "two slices that are not 8 bytes long (15), 10, 11, the block (20 or 24), 81, 86". A
+    /// verdict has 81 in its place, then 00 or 01.
+    fn outcome(&self, settings: Settings, fields: &Fields<'_>) -> Result<Outcome, Refusal> {
+        let [pin_block, enciphered] = self.blocks()?;
+        let pin = block::read(fields.format, pin_block, fields.account)?;
+        let covered = covered(settings, fields.check, &pin)?;
+        let natural = fields.table.natural_pin(enciphered, pin.length());
+        let offset = offset::characters(&pin, &natural, covered);
+        match &fields.task {
+            Task::MakeOffset(weak_pins) if weak_pins.hold(&pin) => Err(Refusal::WeakPin),
+            Task::MakeOffset(_) => Ok(Outcome::Made(offset)),
+            Task::VerifyOffset(presented) => {
+                presented.has_digits(covered)?;
+                Ok(if presented.is(offset) { Outcome::Verifies } else { Outcome::DoesNotVerify })
+            }
+        }
+    }
+
+    /// The PIN block and the enciphered block: their lengths (15), then the parities 10 and 11.
+    fn blocks(&self) -> Result<[u64; 2], Refusal> {
+        let blocks = [eight_bytes(self.pin_block)?, eight_bytes(self.enciphered)?];
         if !self.pin_key_parity_good {
             return Err(Refusal::PinKeyParity);
         }
         if !self.pvk_parity_good {
             return Err(Refusal::PvkParity);
         }
-        let pin = block::read(fields.format, pin_block, fields.account)?;
-        let covered = covered(settings, fields.check, &pin)?;
-        if fields.weak_pins.hold(&pin) {
-            return Err(Refusal::WeakPin);
-        }
-        let natural = fields.table.natural_pin(enciphered, pin.length());
-        Ok(offset::characters(&pin, &natural, covered))
+        Ok(blocks)
     }
 }
 
@@ -163,10 +170,19 @@ impl Response<'_> {
         self.written += part.len();
     }
 
-    /// "header, response code and two-digit number".
-    fn begin(&mut self, frame: &Frame<'_>, number: u32) {
+    /// "header, response code and two-digit number": the whole of a short response.
+    fn short(&mut self, frame: &Frame<'_>, number: u32) -> u32 {
         self.put(frame.header);
         self.put(&frame.response_code());
         self.put(&[b'0' + (number / 10) as u8, b'0' + (number % 10) as u8]);
+        number
+    }
+
+    /// The response to a command that is done: 00, the offset where one was made, the trailer.
+    fn done(&mut self, frame: &Frame<'_>, offset: &[u8], trailer: &[u8]) -> u32 {
+        let number = self.short(frame, 0);
+        self.put(offset);
+        self.put(trailer);
+        number
     }
 }

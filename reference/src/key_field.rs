@@ -1,4 +1,4 @@
-//! The key type and the two key fields of a command.
+//! The key type of BK, and the two key fields of every command.
 
 use crate::cursor::{decimal, printable, Cursor};
 use crate::reply::Refusal;
@@ -8,49 +8,48 @@ pub type LmkId = u32;
 
 /// Which letters the key fields want.
 #[derive(Clone, Copy, Debug, PartialEq, Eq)]
-pub enum KeyType {
-    /// 001 and 002: `U` + 32 or `T` + 48 hex characters.
+pub enum Letters {
+    /// Key types 001 and 002: `U` + 32 or `T` + 48 hex characters.
     Hex,
-    /// FFF: `S` and a key block.
+    /// Key type FFF: `S` and a key block.
     KeyBlock,
+    /// A command without a key type: each field goes by its own letter.
+    Any,
 }
 
-/// What a key block's bytes 5-6 and 8 may say; byte 7 must be `T` in both fields.
+/// What a key block's bytes 5-6 and 8 may say; byte 7 must be `T` in every key field.
+#[derive(Debug, PartialEq, Eq)]
 pub struct PermittedUse {
-    usages: &'static [&'static [u8]],
-    modes: &'static [u8],
+    pub usages: &'static [&'static [u8]],
+    pub modes: &'static [u8],
 }
-
-pub const PIN_KEY_USE: PermittedUse =
-    PermittedUse { usages: &[b"P0", b"71", b"72"], modes: b"BDN" };
-pub const PVK_USE: PermittedUse = PermittedUse { usages: &[b"V1"], modes: b"CGN" };
 
 const ALGORITHM: u8 = b'T';
 
 /// Version and length, the first characters after `S`.
 const FRONT: usize = 5;
 
-/// Field 1: "001, 002 or FFF, else 15".
-pub fn key_type(cursor: &mut Cursor<'_>) -> Result<KeyType, Refusal> {
+/// BK's field 1: "001, 002 or FFF, else 15".
+pub fn key_type(cursor: &mut Cursor<'_>) -> Result<Letters, Refusal> {
     match cursor.take(3)? {
-        b"001" | b"002" => Ok(KeyType::Hex),
-        b"FFF" => Ok(KeyType::KeyBlock),
+        b"001" | b"002" => Ok(Letters::Hex),
+        b"FFF" => Ok(Letters::KeyBlock),
         _ => Err(Refusal::Field),
     }
 }
 
-/// Fields 2 and 3: "judged letter first". A missing letter is 15, one that the key type does not
-/// want is 26. Only a key block carries an LMK id.
+/// The PIN key or the PVK: "judged letter first". A missing letter is 15, one that is not wanted
+/// is 26. Only a key block carries an LMK id.
 pub fn key(
     cursor: &mut Cursor<'_>,
-    key_type: KeyType,
+    letters: Letters,
     permitted: &PermittedUse,
 ) -> Result<Option<LmkId>, Refusal> {
     let letter = cursor.take(1)?[0];
-    match (key_type, letter) {
-        (KeyType::Hex, b'U') => cursor.take_hex(32).map(|_| None),
-        (KeyType::Hex, b'T') => cursor.take_hex(48).map(|_| None),
-        (KeyType::KeyBlock, b'S') => key_block(cursor, permitted).map(Some),
+    match (letters, letter) {
+        (Letters::Hex | Letters::Any, b'U') => cursor.take_hex(32).map(|_| None),
+        (Letters::Hex | Letters::Any, b'T') => cursor.take_hex(48).map(|_| None),
+        (Letters::KeyBlock | Letters::Any, b'S') => key_block(cursor, permitted).map(Some),
         _ => Err(Refusal::KeyScheme),
     }
 }

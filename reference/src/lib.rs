@@ -1,4 +1,5 @@
-//! A second reading of the paper `01-scope`, written without sight of the product.
+//! A second reading of the paper `01-scope`, and of the first request of `02-change-requests`,
+//! written without sight of the product.
 //!
 //! Every call takes what the matching call of the C face takes: numbers, byte runs and lent
 //! output. It answers with a [`Reply`], and it allocates nothing.
@@ -10,6 +11,7 @@ pub mod account;
 pub mod block;
 pub mod block_calls;
 pub mod cases;
+pub mod command;
 pub mod command_calls;
 pub mod cursor;
 pub mod fields;

@@ -3,7 +3,8 @@
 use reference::cases::{self, Part};
 use std::process::ExitCode;
 
-const USAGE: &str = "usage: reference cases blocks|offsets|commands|soak FILE SEED COUNT";
+const USAGE: &str =
+    "usage: reference cases blocks|offsets|commands|verifications|soak FILE SEED COUNT";
 
 fn main() -> ExitCode {
     let arguments: Vec<String> = std::env::args().skip(1).collect();

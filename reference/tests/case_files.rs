@@ -47,6 +47,12 @@ fn command_cases() {
     assert_whole_file(Part::Commands, "commands", 40, &numbers);
 }
 
+#[test]
+fn verification_cases() {
+    let numbers = [1, 10, 11, 15, 20, 23, 24, 25, 26, 29, 68, 69, 81, 901, 902];
+    assert_whole_file(Part::Verifications, "verifications", 35, &numbers);
+}
+
 /// Most of these are refused, but not so many that what is made after the last refusal is rare.
 #[test]
 fn soak_cases() {

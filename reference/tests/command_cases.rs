@@ -1,152 +1,26 @@
-//! What the cases of the two command calls hold: each kind of command that matters must be among
-//! them. The cases are looked at from outside, by a walk of this file's own.
+//! What the cases of the two command calls on BK hold: each kind of command that matters must be
+//! among them.
 
-use reference::cases::case::{Call, Case};
+mod common;
+
+use common::walk::{self, assert_holds, every, set, walked_set, with_number, Form, Seen, Weak};
+use reference::cases::case::Call;
 use reference::cases::dice::Dice;
 use reference::cases::tally::Tally;
-use reference::cases::{command_bytes, commands, scarce, Demand, Part};
+use reference::cases::{command_bytes, commands, scarce, Part};
 use std::collections::BTreeSet;
-use std::ops::RangeInclusive;
 use std::sync::OnceLock;
 
 const COUNT: u64 = 200_000;
-
-/// A command case, walked over as far as it looks like a command.
-struct Seen {
-    call: Call,
-    numbers: Vec<u64>,
-    runs: Vec<Vec<u8>>,
-    lent: usize,
-    number: u32,
-    walked: Option<Walked>,
-}
-
-struct Walked {
-    key_type: Vec<u8>,
-    pin_key: Vec<u8>,
-    pvk: Vec<u8>,
-    format: u32,
-    check: u64,
-    account: Vec<u8>,
-    first_of_validation: u8,
-    weak: Option<Weak>,
-    lmk: Option<Vec<u8>>,
-    trailer: Option<Vec<u8>>,
-}
-
-/// A list of none has no length.
-struct Weak {
-    count: u64,
-    length: u64,
-    entries: Vec<u8>,
-}
-
-fn seen(case: Case) -> Seen {
-    let number = case.answer().reply.number;
-    let walked = walk(case.numbers[0] as usize, &case.runs[0]);
-    let lent = case.out.expect("both calls are lent output").len();
-    Seen { call: case.call, numbers: case.numbers, runs: case.runs, lent, number, walked }
-}
 
 /// Drawn once, for all tests of this file.
 fn all_seen() -> &'static [Seen] {
     static CASES: OnceLock<Vec<Seen>> = OnceLock::new();
     CASES.get_or_init(|| {
         let mut dice = Dice::new(11);
-        (1..COUNT).map(|index| seen(commands::case(&mut dice, index))).collect()
+        let case = |index| walk::seen(Form::Offset, commands::case(&mut dice, index));
+        (1..COUNT).map(case).collect()
     })
-}
-
-/// Takes characters off the front.
-fn take<'a>(rest: &mut &'a [u8], count: usize) -> Option<&'a [u8]> {
-    let (taken, left) = rest.split_at_checked(count)?;
-    *rest = left;
-    Some(taken)
-}
-
-fn number_of(characters: &[u8]) -> Option<u64> {
-    std::str::from_utf8(characters).ok()?.parse().ok()
-}
-
-fn key(rest: &mut &[u8]) -> Option<Vec<u8>> {
-    let length = match rest.first()? {
-        b'U' => 33,
-        b'T' => 49,
-        b'S' => 1 + number_of(rest.get(2..6)?)? as usize,
-        _ => return None,
-    };
-    take(rest, length).map(<[u8]>::to_vec)
-}
-
-fn walk(header: usize, command: &[u8]) -> Option<Walked> {
-    let rest = &mut command.get(header.checked_add(2)?..)?;
-    let key_type = take(rest, 3)?.to_vec();
-    let (pin_key, pvk) = (key(rest)?, key(rest)?);
-    take(rest, 16)?;
-    let format = number_of(take(rest, 2)?)? as u32;
-    let check = number_of(take(rest, 2)?)?;
-    let account = take(rest, 12)?.to_vec();
-    take(rest, 16)?;
-    let first_of_validation = *rest.first()?;
-    take(rest, if first_of_validation == b'P' { 17 } else { 12 })?;
-    let weak = if rest.starts_with(b";") { Some(weak_list(rest)?) } else { None };
-    let lmk = if rest.starts_with(b"%") { Some(take(rest, 3)?[1..].to_vec()) } else { None };
-    let trailer = rest.strip_prefix(b"\x19").map(<[u8]>::to_vec);
-    Some(Walked {
-        key_type,
-        pin_key,
-        pvk,
-        format,
-        check,
-        account,
-        first_of_validation,
-        weak,
-        lmk,
-        trailer,
-    })
-}
-
-fn weak_list(rest: &mut &[u8]) -> Option<Weak> {
-    let count = number_of(&take(rest, 3)?[1..])?;
-    if count == 0 {
-        return Some(Weak { count, length: 0, entries: vec![] });
-    }
-    let length = number_of(take(rest, 2)?)?;
-    let entries = take(rest, (count * length) as usize)?.to_vec();
-    Some(Weak { count, length, entries })
-}
-
-/// The set of what a question finds in the cases.
-fn set<'a, T: Ord>(
-    cases: impl IntoIterator<Item = &'a Seen>,
-    question: impl Fn(&'a Seen) -> Option<T>,
-) -> BTreeSet<T> {
-    cases.into_iter().filter_map(question).collect()
-}
-
-/// The same of a walked command.
-fn walked_set<'a, T: Ord>(
-    cases: impl IntoIterator<Item = &'a Seen>,
-    question: impl Fn(&'a Walked) -> T,
-) -> BTreeSet<T> {
-    set(cases, |case| case.walked.as_ref().map(&question))
-}
-
-fn with_number(cases: &[Seen], number: u32) -> impl Iterator<Item = &Seen> {
-    cases.iter().filter(move |case| case.number == number)
-}
-
-fn assert_holds<T: Ord + Copy + std::fmt::Debug>(set: &BTreeSet<T>, wanted: &[T]) {
-    for value in wanted {
-        assert!(set.contains(value), "{value:?} is not among the cases");
-    }
-}
-
-fn every<T>(range: RangeInclusive<T>) -> Vec<T>
-where
-    RangeInclusive<T>: Iterator<Item = T>,
-{
-    range.collect()
 }
 
 #[test]
@@ -282,23 +156,13 @@ fn formats() {
     }
 }
 
-/// The PIN in an answering case's clear block, as characters.
-fn pin(case: &Seen) -> Option<Vec<u8>> {
-    let command = case.walked.as_ref()?;
-    let mut pin = [0; 12];
-    let block = case.runs.get(1)?;
-    let reply = reference::read_block(command.format, block, &command.account, &mut pin);
-    let digits = &pin[..reply.written as usize];
-    (reply.number == 0).then(|| digits.iter().map(|digit| b'0' + digit).collect())
-}
-
 /// Check lengths on both sides of PIN lengths, with offsets of either kind.
 #[test]
 fn check_lengths() {
     let cases = all_seen();
     let met = |number, variable| {
         let met = with_number(cases, number).filter(|case| (case.numbers[2] != 0) == variable);
-        set(met, |case| Some((pin(case)?.len() as u64, case.walked.as_ref()?.check)))
+        set(met, |case| Some((case.pin()?.len() as u64, case.walked.as_ref()?.check)))
     };
     let (plain, too_long, variable) = (met(0, false), met(81, false), met(0, true));
     for pin in 4..=12 {
@@ -331,7 +195,7 @@ fn weak_lists() {
 fn near_misses_of_weak_pins() {
     let mut kinds = [0; 6];
     for case in with_number(all_seen(), 0) {
-        let Some(pin) = pin(case) else { continue };
+        let Some(pin) = case.pin() else { continue };
         let Some(Weak { count: 1.., length, entries: list }) =
             case.walked.as_ref().and_then(|command| command.weak.as_ref())
         else {
@@ -401,45 +265,29 @@ fn cut_fields() {
     assert_eq!(Vec::from_iter(lengths), every(0..=21));
 }
 
-/// The asking and the answering call judge frame and fields alike; only behind the fields the
-/// answering call goes on by itself.
 #[test]
 fn both_calls_judge_alike() {
     for case in all_seen().iter().filter(|case| case.number != 901 && case.call == Call::Answer) {
-        let settings = reference::Settings::of_face(
-            case.numbers[0] as usize,
-            case.numbers[1] as u8,
-            case.numbers[2] as u8,
-        );
-        let asked = reference::ask(settings, &case.runs[0], &mut [0; 8]).number;
-        if asked == 0 {
-            assert!([0, 10, 11, 15, 20, 24, 81, 86].contains(&case.number));
-        } else {
-            assert_eq!(asked, case.number);
-        }
+        case.assert_asking_agrees(&[0, 10, 11, 15, 20, 24, 81, 86]);
     }
 }
 
 /// A file of many cases must hold each answer often; a smaller one need not.
 #[test]
 fn scarce_answers_are_a_fault() {
-    let Demand { many, of_each, calls } = commands::DEMAND;
+    let demand = commands::demand();
+    let many = demand.many;
+    assert_eq!(many, 500_000);
+    assert_eq!(scarce(Part::Commands, many, &Tally::default()).len(), 11 + 17);
+    assert!(scarce(Part::Commands, many - 1, &Tally::default()).is_empty());
     let mut tally = Tally::default();
-    assert!(scarce(Part::Commands, many - 1, &tally).is_empty());
-    assert_eq!(scarce(Part::Commands, many, &tally).len(), 11 + 17);
-    for &call in calls {
-        for &number in call.answers() {
-            (0..of_each).for_each(|_| tally.count(call, number));
-        }
+    for due in &demand.dues {
+        assert_eq!(due.times, 500);
+        let missing = u64::from((due.subject, due.number) == (Call::Answer.into(), 86));
+        (missing..due.times).for_each(|_| tally.count(due.subject, due.number));
     }
-    assert!(scarce(Part::Commands, many, &tally).is_empty());
-    let mut short = Tally::default();
-    for &call in calls {
-        for &number in call.answers() {
-            let missing = u64::from((call, number) == (Call::Answer, 86));
-            (missing..of_each).for_each(|_| short.count(call, number));
-        }
-    }
-    let lines = scarce(Part::Commands, many, &short);
+    let lines = scarce(Part::Commands, many, &tally);
     assert_eq!(lines, ["answer answers 86 499 times, not 500"]);
+    tally.count(Call::Answer, 86);
+    assert!(scarce(Part::Commands, many, &tally).is_empty());
 }

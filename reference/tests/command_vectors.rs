@@ -2,17 +2,9 @@
 
 mod common;
 
+use common::command::{answered, Command, P2, P9};
 use common::{bytes, done, refused, ACCOUNT, TABLE, UNTOUCHED};
 use reference::{answer, ask, usual, Reply, Settings};
-
-const P2: &str = "05 34 16 7F FF ED CB A9";
-const P9: &str = "9F 3C 0A 71 00 00 00 00";
-
-/// The paper's command in its fields; a test replaces one and asks again.
-#[derive(Clone)]
-struct Command {
-    fields: Vec<Vec<u8>>,
-}
 
 const CODE: usize = 1;
 const KEY_TYPE: usize = 2;
@@ -26,80 +18,41 @@ const TABLE_FIELD: usize = 9;
 const VALIDATION: usize = 10;
 const OPTIONS: usize = 11;
 
-impl Command {
-    fn of_the_paper() -> Command {
-        let key = [b"U".to_vec(), vec![b'0'; 32]].concat();
-        let fields = vec![
-            b"HDR1".to_vec(),
-            b"BK".to_vec(),
-            b"001".to_vec(),
-            key.clone(),
-            key,
-            vec![b'0'; 16],
-            b"01".to_vec(),
-            b"04".to_vec(),
-            ACCOUNT.to_vec(),
-            TABLE.to_vec(),
-            b"0123456789AN".to_vec(),
-            vec![],
-        ];
-        Command { fields }
-    }
-
-    /// With two key blocks of 16 characters, LMK id 03.
-    fn with_key_blocks() -> Command {
-        Command::of_the_paper()
-            .with(KEY_TYPE, b"FFF")
-            .with(PIN_KEY, b"S1001672TB00N0003")
-            .with(PVK, b"S00016V1TN00N0003")
-    }
-
-    fn with(mut self, field: usize, text: &[u8]) -> Command {
-        self.fields[field] = text.to_vec();
-        self
-    }
-
-    fn bytes(&self) -> Vec<u8> {
-        self.fields.concat()
-    }
-
-    /// Both calls on this command; they must agree as long as the fields decide.
-    fn number(&self) -> u32 {
-        let (reply, _) = self.answered(Settings::usual());
-        let mut out = [UNTOUCHED; 8];
-        let asked = ask(Settings::usual(), &self.bytes(), &mut out);
-        assert_eq!(asked.number, reply.number);
-        assert_eq!(out == [UNTOUCHED; 8], asked.number != 0);
-        reply.number
-    }
-
-    fn answered(&self, settings: Settings) -> (Reply, Vec<u8>) {
-        answered(settings, [true, true], &self.bytes(), &bytes(P2))
-    }
+fn of_the_paper() -> Command {
+    let key = [b"U".to_vec(), vec![b'0'; 32]].concat();
+    let fields = vec![
+        b"HDR1".to_vec(),
+        b"BK".to_vec(),
+        b"001".to_vec(),
+        key.clone(),
+        key,
+        vec![b'0'; 16],
+        b"01".to_vec(),
+        b"04".to_vec(),
+        ACCOUNT.to_vec(),
+        TABLE.to_vec(),
+        b"0123456789AN".to_vec(),
+        vec![],
+    ];
+    Command { fields }
 }
 
-/// The reply and what it wrote; the bytes behind that must be untouched.
-fn answered(
-    settings: Settings,
-    [pin_key, pvk]: [bool; 2],
-    command: &[u8],
-    pin_block: &[u8],
-) -> (Reply, Vec<u8>) {
-    let mut out = vec![UNTOUCHED; 70];
-    let reply = answer(settings, pin_key, pvk, command, pin_block, &bytes(P9), &mut out);
-    let rest = out.split_off(reply.written as usize);
-    assert!(rest.iter().all(|&byte| byte == UNTOUCHED));
-    (reply, out)
+/// With two key blocks of 16 characters, LMK id 03.
+fn with_key_blocks() -> Command {
+    of_the_paper()
+        .with(KEY_TYPE, b"FFF")
+        .with(PIN_KEY, b"S1001672TB00N0003")
+        .with(PVK, b"S00016V1TN00N0003")
 }
 
 /// "answers `HDR1BL009247FFFFFFFF`: header, response code, 00, offset."
 #[test]
 fn the_run_of_the_paper() {
-    let (reply, response) = Command::of_the_paper().answered(Settings::usual());
+    let (reply, response) = of_the_paper().answered(Settings::usual());
     assert_eq!(reply, done(20));
     assert_eq!(response, b"HDR1BL009247FFFFFFFF");
     let mut out = [UNTOUCHED; 9];
-    assert_eq!(ask(Settings::usual(), &Command::of_the_paper().bytes(), &mut out), done(8));
+    assert_eq!(ask(Settings::usual(), &of_the_paper().bytes(), &mut out), done(8));
     assert_eq!(out[..8], bytes("01 23 45 67 89 A2 34 56"));
     assert_eq!(out[8], UNTOUCHED);
 }
@@ -114,7 +67,7 @@ fn usual_settings() {
 #[test]
 fn a_refusal_writes_header_code_and_number() {
     let (reply, response) =
-        Command::of_the_paper().with(CHECK, b"03").with(OPTIONS, b"\x19end").answered(usual());
+        of_the_paper().with(CHECK, b"03").with(OPTIONS, b"\x19end").answered(usual());
     assert_eq!(reply, Reply { number: 15, written: 8 });
     assert_eq!(response, b"HDR1BL15");
 }
@@ -122,15 +75,15 @@ fn a_refusal_writes_header_code_and_number() {
 /// "The response code is the command code with its second byte raised by one (255 becomes 0)".
 #[test]
 fn other_command_codes() {
-    let (reply, response) = Command::of_the_paper().with(CODE, b"EE").answered(usual());
+    let (reply, response) = of_the_paper().with(CODE, b"EE").answered(usual());
     assert_eq!((reply.number, &response[..]), (68, &b"HDR1EF68"[..]));
-    let (reply, response) = Command::of_the_paper().with(CODE, b"B\xFF").answered(usual());
+    let (reply, response) = of_the_paper().with(CODE, b"B\xFF").answered(usual());
     assert_eq!((reply.number, &response[..]), (68, &b"HDR1B\x0068"[..]));
 }
 
 #[test]
 fn output_and_frame_come_first() {
-    let command = Command::of_the_paper().bytes();
+    let command = of_the_paper().bytes();
     let (block, enciphered) = (bytes(P2), bytes(P9));
     let reply = |header, command: &[u8], out: &mut [u8]| {
         let settings = Settings { header, ..usual() };
@@ -153,7 +106,7 @@ fn output_and_frame_come_first() {
 /// Cut anywhere before its last character, the command is 902 or 15.
 #[test]
 fn cut_commands() {
-    let command = Command::of_the_paper().bytes();
+    let command = of_the_paper().bytes();
     for length in 0..command.len() {
         let (reply, response) = answered(usual(), [true, true], &command[..length], &bytes(P2));
         if length < 6 {
@@ -166,7 +119,7 @@ fn cut_commands() {
 
 #[test]
 fn plain_fields() {
-    let whole = Command::of_the_paper;
+    let whole = of_the_paper;
     assert_eq!(whole().number(), 0);
     assert_eq!(whole().with(KEY_TYPE, b"002").number(), 0);
     assert_eq!(whole().with(KEY_TYPE, b"003").number(), 15);
@@ -187,13 +140,13 @@ fn plain_fields() {
 /// Characters missing at the end give 15 before the table's non-digit could give 25.
 #[test]
 fn a_short_table_is_15() {
-    let command = Command::of_the_paper().with(TABLE_FIELD, b"A23").with(VALIDATION, b"");
+    let command = of_the_paper().with(TABLE_FIELD, b"A23").with(VALIDATION, b"");
     assert_eq!(command.number(), 15);
 }
 
 #[test]
 fn hex_keys() {
-    let whole = Command::of_the_paper;
+    let whole = of_the_paper;
     let triple = [b"T".to_vec(), vec![b'F'; 48]].concat();
     assert_eq!(whole().with(PVK, &triple).number(), 0);
     assert_eq!(whole().with(PIN_KEY, &triple).with(PVK, &triple).number(), 0);
@@ -206,8 +159,8 @@ fn hex_keys() {
 /// Letter, version and length (26), the rest (15), use (29), LMK id (15): in this order.
 #[test]
 fn key_blocks() {
-    let number = |key: &[u8]| Command::with_key_blocks().with(PIN_KEY, key).number();
-    assert_eq!(Command::with_key_blocks().number(), 0);
+    let number = |key: &[u8]| with_key_blocks().with(PIN_KEY, key).number();
+    assert_eq!(with_key_blocks().number(), 0);
     assert_eq!(number(b"S10016P0TD00N0003"), 0);
     assert_eq!(number(b"S1001771TN00N0003~"), 0);
     assert_eq!(number(b"S2001672TB00N0003"), 26);
@@ -219,10 +172,12 @@ fn key_blocks() {
     assert_eq!(number(b"S1001672AB00N0003"), 29);
     assert_eq!(number(b"S1001672TC00N0003"), 29);
     assert_eq!(number(b"S1001672TB00N0010"), 15);
-    let pvk = |key: &[u8]| Command::with_key_blocks().with(PVK, key).number();
+    let pvk = |key: &[u8]| with_key_blocks().with(PVK, key).number();
     assert_eq!(pvk(b"S00016V1TG00N0003"), 0);
     assert_eq!(pvk(b"S00016V2TG00N0003"), 29);
     assert_eq!(pvk(b"S00016V1TB00N0003"), 29);
+    // DA and EA permit V in the place of G
+    assert_eq!(pvk(b"S00016V1TV00N0003"), 29);
 }
 
 /// The longest key block, and one whose characters end too early: five missing characters and
@@ -230,7 +185,7 @@ fn key_blocks() {
 #[test]
 fn key_blocks_at_their_limits() {
     let longest = [b"S1051272TB00N0003".to_vec(), vec![b'~'; 512 - 16]].concat();
-    assert_eq!(Command::with_key_blocks().with(PIN_KEY, &longest).number(), 0);
+    assert_eq!(with_key_blocks().with(PIN_KEY, &longest).number(), 0);
     let head = b"HDR1BKFFF".to_vec();
     let cut = |key: &[u8]| {
         let command = [&head[..], key].concat();
@@ -247,7 +202,7 @@ fn key_blocks_at_their_limits() {
 /// "LMK ids present in fields 2, 3 and 11 must all agree, else 15."
 #[test]
 fn lmk_ids() {
-    let option = |text: &[u8]| Command::with_key_blocks().with(OPTIONS, text);
+    let option = |text: &[u8]| with_key_blocks().with(OPTIONS, text);
     assert_eq!(option(b"%03").number(), 0);
     assert_eq!(option(b"%04").number(), 15);
     assert_eq!(option(b"%10").number(), 15);
@@ -255,13 +210,13 @@ fn lmk_ids() {
     assert_eq!(option(b"%03").with(PVK, b"S00016V1TN00N0004").number(), 15);
     assert_eq!(option(b"").with(PVK, b"S00016V1TN00N0004").number(), 15);
     assert_eq!(option(b"%03").with(PIN_KEY, b"S1001672TB00N0004").number(), 15);
-    assert_eq!(Command::of_the_paper().with(OPTIONS, b"%09").number(), 0);
+    assert_eq!(of_the_paper().with(OPTIONS, b"%09").number(), 0);
 }
 
 /// Field 10 part by part: count 03, length 15, list 03.
 #[test]
 fn weak_list_form() {
-    let number = |text: &[u8]| Command::of_the_paper().with(OPTIONS, text).number();
+    let number = |text: &[u8]| of_the_paper().with(OPTIONS, text).number();
     assert_eq!(number(b";00"), 0);
     assert_eq!(number(b";00%09"), 0);
     assert_eq!(number(b";"), 3);
@@ -281,8 +236,7 @@ fn weak_list_form() {
 /// "A weak PIN of another length than the PIN never matches." The PIN is 34567.
 #[test]
 fn weak_pins() {
-    let number =
-        |text: &[u8]| Command::of_the_paper().with(OPTIONS, text).answered(usual()).0.number;
+    let number = |text: &[u8]| of_the_paper().with(OPTIONS, text).answered(usual()).0.number;
     assert_eq!(number(b";010534567"), 86);
     assert_eq!(number(b";03051111134567" as &[u8]), 3);
     assert_eq!(number(b";0305111112222234567"), 86);
@@ -298,8 +252,7 @@ fn the_longest_weak_lists() {
     for length in 4..=12 {
         let entries = [vec![b'1'; 98 * length], b"345670000000"[..length].to_vec()].concat();
         let list = [format!(";99{length:02}").into_bytes(), entries].concat();
-        let number =
-            |list: &[u8]| Command::of_the_paper().with(OPTIONS, list).answered(usual()).0.number;
+        let number = |list: &[u8]| of_the_paper().with(OPTIONS, list).answered(usual()).0.number;
         assert_eq!(number(&list), if length == 5 { 86 } else { 0 });
         assert_eq!(number(&list[..list.len() - 1]), 3);
     }
@@ -308,7 +261,7 @@ fn the_longest_weak_lists() {
 /// "Optional byte 19 hex and a trailer of 0 to 32 printable characters"; it comes back with 00.
 #[test]
 fn trailers() {
-    let whole = Command::of_the_paper;
+    let whole = of_the_paper;
     for length in [0, 1, 32] {
         let trailer = [vec![0x19], vec![b';'; length]].concat();
         let (reply, response) = whole().with(OPTIONS, &trailer).answered(usual());
@@ -325,7 +278,7 @@ fn trailers() {
 /// The longest response fills all of the 65 bytes.
 #[test]
 fn the_longest_response() {
-    let command = Command::of_the_paper();
+    let command = of_the_paper();
     let trailer = [vec![0x19], vec![b'z'; 32]].concat();
     let command = command.with(0, &[b'h'; 16]).with(OPTIONS, &trailer);
     let (reply, response) = command.answered(Settings { header: 16, ..usual() });
@@ -338,7 +291,7 @@ fn the_longest_response() {
 #[test]
 fn the_answering_calls_own_judgements() {
     let weak = b";010534567";
-    let command = Command::of_the_paper().with(CHECK, b"06").with(OPTIONS, weak).bytes();
+    let command = of_the_paper().with(CHECK, b"06").with(OPTIONS, weak).bytes();
     let number =
         |parities, block: &str| answered(usual(), parities, &command, &bytes(block)).0.number;
     assert_eq!(number([false, false], "05 34 16 7F FF ED CB"), 15);
@@ -354,7 +307,7 @@ fn the_answering_calls_own_judgements() {
 /// "two slices that are not 8 bytes long (15)": either of them, before 10.
 #[test]
 fn slices() {
-    let command = Command::of_the_paper().bytes();
+    let command = of_the_paper().bytes();
     let slice = |length| [bytes(P2), bytes(P9)].concat()[..length].to_vec();
     for (block, enciphered) in [(0, 8), (7, 8), (9, 8), (8, 0), (8, 7), (8, 9), (7, 9)] {
         let mut out = [UNTOUCHED; 65];
@@ -370,7 +323,7 @@ fn slices() {
 fn restricted_formats() {
     let restricted = Settings { restricted: true, ..usual() };
     for (code, number) in [("01", 0), ("47", 20), ("03", 69), ("05", 69), ("34", 69), ("35", 69)] {
-        let command = Command::of_the_paper().with(FORMAT, code.as_bytes());
+        let command = of_the_paper().with(FORMAT, code.as_bytes());
         assert_eq!(command.answered(restricted).0.number, number);
         let asked = ask(restricted, &command.bytes(), &mut [0; 8]).number;
         assert_eq!(asked, if number == 69 { 69 } else { 0 });
@@ -381,7 +334,7 @@ fn restricted_formats() {
 #[test]
 fn variable_length() {
     let variable = Settings { variable: true, ..usual() };
-    let (reply, response) = Command::of_the_paper().with(CHECK, b"12").answered(variable);
+    let (reply, response) = of_the_paper().with(CHECK, b"12").answered(variable);
     assert_eq!(reply, done(20));
     assert_eq!(response, b"HDR1BL0049247FFFFFFF");
 }

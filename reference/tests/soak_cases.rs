@@ -95,8 +95,29 @@ fn outputs_are_of_any_length() {
 /// A soak of a million cases must hold every answer of every call.
 #[test]
 fn scarce_answers_are_a_fault() {
-    let many = soak::DEMAND.many;
+    let many = soak::demand().many;
     assert_eq!(many, 1_000_000);
     assert!(scarce(Part::Soak, many - 1, &Tally::default()).is_empty());
-    assert_eq!(scarce(Part::Soak, many, &Tally::default()).len(), 104);
+    assert_eq!(scarce(Part::Soak, many, &Tally::default()).len(), 105);
+}
+
+/// Each command is among the inputs of both calls, and comes as far as its call can.
+#[test]
+fn every_command_is_done() {
+    let mut met = BTreeSet::new();
+    each(|_, case| {
+        let number = case.answer().reply.number;
+        if matches!(case.call, Call::Ask | Call::Answer) && number < 2 {
+            let header = case.numbers[0] as usize;
+            met.insert((case.call, number, case.runs[0][header..header + 2].to_vec()));
+        }
+    });
+    let of_codes = |call, number, codes: &[&[u8]]| {
+        let seen = |code: &&[u8]| met.contains(&(call, number, code.to_vec()));
+        codes.iter().all(seen)
+    };
+    assert!(of_codes(Call::Ask, 0, &[b"BK", b"DA", b"EA"]));
+    assert!(of_codes(Call::Answer, 0, &[b"BK", b"DA", b"EA"]));
+    assert!(of_codes(Call::Answer, 1, &[b"DA", b"EA"]));
+    assert_eq!(met.len(), 3 + 3 + 2);
 }

@@ -1,6 +1,7 @@
 //! One case: a call of the C face with everything it is given, and its answer.
 
-use crate::reply::Reply;
+use crate::command::{Command, Purpose};
+use crate::reply::{Refusal, Reply};
 use crate::settings::Settings;
 
 /// The calls of the C face; the value is the call's code in a case file.
@@ -81,7 +82,7 @@ impl Call {
         }
     }
 
-    /// Every number that the call can answer. 01 is a verdict's alone.
+    /// Every number that the call can answer. 01 is a verdict's alone, also that of a command.
     pub fn answers(self) -> &'static [u32] {
         match self {
             Call::ReadBlock | Call::WriteBlock => &[0, 15, 20, 23, 24, 69, 901],
@@ -93,9 +94,21 @@ impl Call {
             Call::OffsetVerdict => &[0, 1, 15, 20, 23, 24, 25, 69, 81],
             Call::PvvVerdict => &[0, 1, 15, 20, 23, 24, 69],
             Call::Ask => &[0, 3, 15, 23, 25, 26, 29, 68, 69, 901, 902],
-            Call::Answer => &[0, 3, 10, 11, 15, 20, 23, 24, 25, 26, 29, 68, 69, 81, 86, 901, 902],
+            Call::Answer => {
+                &[0, 1, 3, 10, 11, 15, 20, 23, 24, 25, 26, 29, 68, 69, 81, 86, 901, 902]
+            }
             Call::Usual => &[0],
         }
+    }
+
+    /// Those of them that it can answer to a command that was meant for this one: an offset that
+    /// is made has no verdict, and only BK has a weak list.
+    pub fn answers_to(self, command: &Command) -> Vec<u32> {
+        let of_others: &[u32] = match command.purpose {
+            Purpose::MakeOffset => &[Reply::DOES_NOT_VERIFY],
+            Purpose::VerifyOffset => &[Refusal::WeakList as u32, Refusal::WeakPin as u32],
+        };
+        self.answers().iter().copied().filter(|number| !of_others.contains(number)).collect()
     }
 
     /// How much output the call must be lent: "8 for a block, 4 for a PVV, 12 for digits,

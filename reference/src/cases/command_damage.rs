@@ -2,11 +2,12 @@
 
 use super::case::Call;
 use super::dice::Dice;
-use super::draft::{printable, two_digits, yes, Draft, LMK_MARK, TRAILER_MARK};
+use super::draft::{number_of, printable, two_digits, yes, Draft, LMK_MARK, TRAILER_MARK};
 use super::keys::{self, Place};
 use super::parts;
 use super::validation;
 use super::weak::WeakList;
+use crate::command::Purpose;
 
 /// How many kinds of damage are of use to an asking call too, and how many more are judged after
 /// the fields, by the answering call alone.
@@ -20,20 +21,20 @@ impl Draft {
         match dice.below(kinds) {
             0 => self.out = parts::short_out(dice, self.call),
             1 => self.damage_frame(dice),
-            2 => self.code = code(dice),
-            3 => self.key_type = key_type(dice),
-            4..=6 => keys::damage(dice, &self.key_type, Place::PinKey, &mut self.pin_key),
-            7..=9 => keys::damage(dice, &self.key_type, Place::Pvk, &mut self.pvk),
+            2 => self.damage_code(dice),
+            3 => self.damage_key_type_or_maximum(dice),
+            4..=6 => self.damage_pin_key(dice),
+            7..=9 => self.damage_pvk(dice),
             10 => self.damage_pin_block_field(dice),
             11 => self.format = wrong_format(dice),
             12 => self.format = two_digits(dice.pick(&parts::UNBUILT_CODES)),
-            13 => self.restrict(dice),
+            13 => self.restrict_or_borrow(dice),
             14 => self.format = two_digits(dice.pick(&parts::BUILT_CODES)),
             15 => self.check = wrong_check(dice),
             16 => parts::damage_digit_character(dice, &mut self.account),
             17 => parts::damage_digit_character(dice, &mut self.table),
             18 => validation::damage(dice, &mut self.validation),
-            19 | 20 => self.damage_weak_list(dice),
+            19 | 20 => self.damage_weak_list_or_offset(dice),
             21 => self.damage_lmk(dice),
             22 => self.disagree(dice),
             23 => self.damage_trailer(dice),
@@ -54,13 +55,63 @@ impl Draft {
             5 => self.parities = [0, 0],
             6 => self.check_too_long(dice),
             7 => self.check = two_digits(dice.between(4, 12) as u64),
-            8 | 9 => self.weak = Some(WeakList::with_pin(dice, &self.pin)),
+            8 | 9 => self.spoil_the_pin(dice),
             _ => self.damage_block(dice),
         }
     }
 
+    fn damage_code(&mut self, dice: &mut Dice) {
+        self.code = match self.command.purpose {
+            Purpose::MakeOffset => code(dice),
+            Purpose::VerifyOffset => self.other_code(dice),
+        };
+    }
+
+    /// The field that stands before BK's keys, or behind those of the others.
+    fn damage_key_type_or_maximum(&mut self, dice: &mut Dice) {
+        match self.command.purpose {
+            Purpose::MakeOffset => self.key_type = key_type(dice),
+            Purpose::VerifyOffset => self.damage_maximum(dice),
+        }
+    }
+
+    fn damage_pin_key(&mut self, dice: &mut Dice) {
+        let key_type = self.key_type_of(&self.pin_key);
+        keys::damage(dice, &key_type, Place::pin_key(self.command), &mut self.pin_key);
+    }
+
+    fn damage_pvk(&mut self, dice: &mut Dice) {
+        let key_type = self.key_type_of(&self.pvk);
+        keys::damage(dice, &key_type, Place::pvk(self.command), &mut self.pvk);
+    }
+
+    /// BK's is a field; where there is none, the key's own letter says it.
+    fn key_type_of(&self, key: &[u8]) -> Vec<u8> {
+        match (self.command.purpose, key) {
+            (Purpose::MakeOffset, _) => self.key_type.clone(),
+            (Purpose::VerifyOffset, [b'S', ..]) => b"FFF".to_vec(),
+            (Purpose::VerifyOffset, _) => b"001".to_vec(),
+        }
+    }
+
+    /// Field 10.
+    fn damage_weak_list_or_offset(&mut self, dice: &mut Dice) {
+        match self.command.purpose {
+            Purpose::MakeOffset => self.damage_weak_list(dice),
+            Purpose::VerifyOffset => self.damage_offset(dice),
+        }
+    }
+
+    /// The PIN is on the weak list, or does not fit the offset.
+    fn spoil_the_pin(&mut self, dice: &mut Dice) {
+        match self.command.purpose {
+            Purpose::MakeOffset => self.weak = Some(WeakList::with_pin(dice, &self.pin)),
+            Purpose::VerifyOffset => self.put_other_offset(dice),
+        }
+    }
+
     fn damage_block(&mut self, dice: &mut Dice) {
-        let code = self.format.iter().fold(0, |code, &digit| 10 * code + u64::from(digit & 0xF));
+        let code = number_of(&self.format);
         parts::damage_block(dice, code, &self.account, &mut self.pin_block);
     }
 
@@ -68,6 +119,9 @@ impl Draft {
     fn check_too_long(&mut self, dice: &mut Dice) {
         self.settings[2] = 0;
         self.check = two_digits(dice.between(self.pin.len().min(11) + 1, 12) as u64);
+        if self.command.purpose == Purpose::VerifyOffset {
+            self.let_the_offset_follow(dice);
+        }
     }
 
     /// A header setting over 16, one that is not the header's length, or a byte that no header
@@ -96,6 +150,14 @@ impl Draft {
                 let place = dice.below(self.enciphered_pin_block.len());
                 self.enciphered_pin_block[place] = dice.pick(b"abcdefG@/:`g \x00\xFF");
             }
+        }
+    }
+
+    /// What is BK's affair, the restricted setting, or what the others differ in, the keys.
+    fn restrict_or_borrow(&mut self, dice: &mut Dice) {
+        match self.command.purpose {
+            Purpose::MakeOffset => self.restrict(dice),
+            Purpose::VerifyOffset => self.borrow_keys(dice),
         }
     }
 
@@ -144,11 +206,14 @@ impl Draft {
             [one, other, third],
         ]);
         self.key_type = b"FFF".to_vec();
-        self.pin_key = keys::whole(dice, b"FFF", Place::PinKey, pin_key);
-        self.pvk = keys::whole(dice, b"FFF", Place::Pvk, pvk);
+        self.pin_key = keys::whole(dice, b"FFF", Place::pin_key(self.command), pin_key);
+        self.pvk = keys::whole(dice, b"FFF", Place::pvk(self.command), pvk);
         self.lmk = vec![LMK_MARK, b'0', b'0' + own];
         if pin_key != pvk && dice.chance(40) {
             self.lmk.clear();
+        }
+        if self.command.purpose == Purpose::VerifyOffset {
+            self.put_hex_key_beside_key_block(dice);
         }
     }
 

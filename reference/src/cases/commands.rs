@@ -1,15 +1,18 @@
-//! Cases for the asking and the answering call, and for the usual settings.
+//! Cases for the asking and the answering call on BK, and for the usual settings.
 
 use super::case::{Call, Case};
 use super::command_bytes;
+use super::demand::{self, Demand};
 use super::dice::Dice;
 use super::draft::Draft;
-use super::Demand;
+use crate::command::BK;
 use crate::settings::Settings;
 
 pub const CALLS: [Call; 2] = [Call::Ask, Call::Answer];
 
-pub const DEMAND: Demand = Demand { many: 500_000, of_each: 500, calls: &CALLS };
+pub fn demand() -> Demand {
+    Demand { many: 500_000, dues: demand::of_command(&CALLS, &BK, None, 500) }
+}
 
 /// The first case of a file asks for the usual settings: that call takes nothing, so that once is
 /// enough. Every other case is a command.
@@ -21,10 +24,14 @@ pub fn case(dice: &mut Dice, index: u64) -> Case {
     case_of(dice, call)
 }
 
+pub fn case_of(dice: &mut Dice, call: Call) -> Case {
+    let draft = Draft::whole(dice, call, &BK);
+    of_draft(dice, draft)
+}
+
 /// More than a third of the commands are left whole; some of the damaged ones are damaged twice,
 /// so that the order of judging decides.
-pub fn case_of(dice: &mut Dice, call: Call) -> Case {
-    let mut draft = Draft::whole(dice, call);
+pub fn of_draft(dice: &mut Dice, mut draft: Draft) -> Case {
     match dice.below(100) {
         0..=35 => draft.into_case(),
         36..=72 => {

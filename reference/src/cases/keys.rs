@@ -2,17 +2,29 @@
 
 use super::dice::Dice;
 use super::validation::HEX;
+use crate::command::Command;
+use crate::key_field::PermittedUse;
 
-/// Which of the two key fields.
-#[derive(Clone, Copy, PartialEq, Eq)]
-pub enum Place {
-    PinKey,
-    Pvk,
+/// A key field of a command: what it permits, and what the other one does.
+#[derive(Clone, Copy)]
+pub struct Place {
+    own: &'static PermittedUse,
+    other: &'static PermittedUse,
+}
+
+impl Place {
+    pub fn pin_key(command: &'static Command) -> Place {
+        Place { own: &command.pin_key, other: &command.pvk }
+    }
+
+    pub fn pvk(command: &'static Command) -> Place {
+        Place { own: &command.pvk, other: &command.pin_key }
+    }
 }
 
 const PRINTABLE: &[u8] = b" !0123456789;%PNSTUVXBDabcz~|}";
 
-/// Uses of a key, permitted in one of the two fields or in neither.
+/// Uses of a key, permitted in one of the two fields of some command or in none.
 const USAGES: [&[u8; 2]; 18] = [
     b"P0", b"71", b"72", b"V1", b"P0", b"71", b"72", b"V1", b"V2", b"V0", b"P1", b"70", b"73",
     b"K0", b"17", b"0P", b"p0", b"v1",
@@ -24,7 +36,7 @@ const MODES: &[u8] = b"BCDEGNSTVXYbdngc ";
 pub fn whole(dice: &mut Dice, key_type: &[u8], place: Place, lmk: u8) -> Vec<u8> {
     if key_type == b"FFF" {
         let length = key_block_length(dice);
-        return key_block(dice, place, length, lmk);
+        return key_block(dice, place.own, length, lmk);
     }
     match dice.below(3) {
         0 => [b"U".to_vec(), vec![b'0'; 32]].concat(),
@@ -42,11 +54,12 @@ fn key_block_length(dice: &mut Dice) -> usize {
     }
 }
 
-fn key_block(dice: &mut Dice, place: Place, length: usize, lmk: u8) -> Vec<u8> {
-    let (usage, mode): (&[u8], u8) = match place {
-        Place::PinKey => (dice.pick(&[b"P0", b"71", b"72"]), dice.pick(b"BDN")),
-        Place::Pvk => (b"V1", dice.pick(b"CGN")),
+fn key_block(dice: &mut Dice, permitted: &PermittedUse, length: usize, lmk: u8) -> Vec<u8> {
+    let usage = match permitted.usages {
+        [only] => only,
+        several => dice.pick(several),
     };
+    let mode = dice.pick(permitted.modes);
     let mut field = vec![b'S', dice.pick(b"01")];
     field.extend(format!("{length:04}").bytes());
     field.extend(usage);
@@ -140,11 +153,8 @@ fn any_use(dice: &mut Dice, field: &mut [u8]) {
 
 /// The PVK's key block where the PIN key's belongs, or the other way about.
 fn of_other_place(dice: &mut Dice, place: Place) -> Vec<u8> {
-    let other = match place {
-        Place::PinKey => Place::Pvk,
-        Place::Pvk => Place::PinKey,
-    };
-    whole(dice, b"FFF", other, 0)
+    let Place { own, other } = place;
+    whole(dice, b"FFF", Place { own: other, other: own }, 0)
 }
 
 /// A length around its limits; the field itself follows in half of the cases.

@@ -5,6 +5,7 @@ pub mod case;
 pub mod command_bytes;
 pub mod command_damage;
 pub mod commands;
+pub mod demand;
 pub mod dice;
 pub mod draft;
 pub mod file;
@@ -12,23 +13,20 @@ pub mod keys;
 pub mod mutation;
 pub mod offsets;
 pub mod parts;
+pub mod presented;
 pub mod soak;
 pub mod tally;
 pub mod validation;
+pub mod verification_damage;
+pub mod verifications;
 pub mod weak;
 
-use case::{Call, Case};
+use case::Case;
+use demand::Demand;
 use dice::Dice;
 use file::CaseFile;
 use std::io;
-use tally::Tally;
-
-/// What a file of many cases must hold: each answer of each of the calls, so many times.
-pub struct Demand {
-    pub many: u64,
-    pub of_each: u64,
-    pub calls: &'static [Call],
-}
+use tally::{Subject, Tally};
 
 /// The parts of the box that a case file may speak of.
 #[derive(Clone, Copy, Debug, PartialEq, Eq)]
@@ -36,6 +34,7 @@ pub enum Part {
     Blocks,
     Offsets,
     Commands,
+    Verifications,
     Soak,
 }
 
@@ -45,6 +44,7 @@ impl Part {
             "blocks" => Some(Part::Blocks),
             "offsets" => Some(Part::Offsets),
             "commands" => Some(Part::Commands),
+            "verifications" => Some(Part::Verifications),
             "soak" => Some(Part::Soak),
             _ => None,
         }
@@ -53,8 +53,9 @@ impl Part {
     pub fn demand(self) -> Option<Demand> {
         match self {
             Part::Blocks | Part::Offsets => None,
-            Part::Commands => Some(commands::DEMAND),
-            Part::Soak => Some(soak::DEMAND),
+            Part::Commands => Some(commands::demand()),
+            Part::Verifications => Some(verifications::demand()),
+            Part::Soak => Some(soak::demand()),
         }
     }
 
@@ -64,7 +65,16 @@ impl Part {
             Part::Blocks => blocks::case(dice),
             Part::Offsets => offsets::case(dice),
             Part::Commands => commands::case(dice, index),
+            Part::Verifications => verifications::case(dice, index),
             Part::Soak => soak::case(dice, index),
+        }
+    }
+
+    /// Whose answers case number `index` counts among.
+    fn subject(self, index: u64, case: &Case) -> Subject {
+        match self {
+            Part::Verifications => verifications::subject(index, case),
+            _ => case.call.into(),
         }
     }
 }
@@ -88,7 +98,7 @@ fn write(part: Part, path: &str, seed: u64, count: u64) -> io::Result<Tally> {
     for index in 0..count {
         let case = part.case(&mut dice, index);
         let answer = case.answer();
-        tally.count(case.call, answer.reply.number);
+        tally.count(part.subject(index, &case), answer.reply.number);
         file.add(&case, &answer)?;
     }
     file.finish()?;
@@ -97,18 +107,5 @@ fn write(part: Part, path: &str, seed: u64, count: u64) -> io::Result<Tally> {
 
 /// What the tally of a file of many cases lacks, a line for each answer.
 pub fn scarce(part: Part, count: u64, tally: &Tally) -> Vec<String> {
-    let Some(demand) = part.demand().filter(|demand| count >= demand.many) else {
-        return vec![];
-    };
-    let answers = demand
-        .calls
-        .iter()
-        .flat_map(|&call| call.answers().iter().map(move |&number| (call, number)));
-    answers
-        .filter_map(|(call, number)| {
-            let (met, due) = (tally.of_call_and_number(call, number), demand.of_each);
-            (met < due)
-                .then(|| format!("{} answers {number:02} {met} times, not {due}", call.name()))
-        })
-        .collect()
+    part.demand().map(|demand| demand.scarce(count, tally)).unwrap_or_default()
 }

@@ -3,8 +3,8 @@
 use super::case::{Call, Case};
 use super::dice::Dice;
 use super::parts;
+use super::presented::{self, Makings};
 use super::validation;
-use crate::settings::Settings;
 
 pub const CALLS: [Call; 9] = [
     Call::ValidationBlock,
@@ -137,7 +137,7 @@ impl Draft {
             table: parts::table(dice),
             enciphered: parts::enciphered(dice),
             validation: validation::whole(dice),
-            offset: vec![b'F'; 12],
+            offset: vec![],
             pvv: vec![b'0'; 4],
             out: parts::enough_out(dice, call),
             pin,
@@ -149,13 +149,17 @@ impl Draft {
 
     /// The offset and the PVV that the verdicts accept.
     fn make_right_answers(&mut self) {
-        let settings = Settings::of_face(0, 0, self.settings[2] as u8);
-        let (format, check) = (self.format as u32, self.check as u32);
-        let [block, account] = [&self.block, &self.account];
-        let [table, enciphered] = [&self.table, &self.enciphered];
-        let offset = &mut self.offset;
-        crate::offset(settings, format, check, block, account, table, enciphered, offset);
-        crate::pvv(enciphered, &mut self.pvv);
+        let makings = Makings {
+            variable: self.settings[2],
+            format: self.format,
+            check: self.check,
+            block: &self.block,
+            account: &self.account,
+            table: &self.table,
+            enciphered: &self.enciphered,
+        };
+        self.offset = makings.right();
+        crate::pvv(&self.enciphered, &mut self.pvv);
     }
 
     fn damage(&mut self, dice: &mut Dice, ways: &[Damage]) {
@@ -186,9 +190,9 @@ impl Draft {
             Damage::PinDigit => parts::damage_digit_value(dice, &mut self.pin),
             Damage::NaturalLength => parts::damage_digit_count(dice, &mut self.natural),
             Damage::NaturalDigit => parts::damage_digit_value(dice, &mut self.natural),
-            Damage::OffsetForm => damage_offset_form(dice, &mut self.offset),
-            Damage::OffsetCount => damage_offset_count(dice, &mut self.offset),
-            Damage::OffsetDigit => damage_offset_digit(dice, &mut self.offset),
+            Damage::OffsetForm => presented::damage_form(dice, &mut self.offset),
+            Damage::OffsetCount => presented::damage_count(dice, &mut self.offset),
+            Damage::OffsetDigit => presented::damage_digit(dice, &mut self.offset),
             Damage::KeyIndex => self.index = index_outside(dice),
             Damage::PvvForm => parts::damage_digit_run(dice, &mut self.pvv),
             _ => self.damage_pvv_digit(dice),
@@ -261,53 +265,4 @@ fn length_outside(dice: &mut Dice) -> u64 {
 /// A key index outside 0 to 6.
 fn index_outside(dice: &mut Dice) -> u64 {
     dice.pick(&[7, 7, 8, 9, 10, 16, 48, 54, 255, 256, 256 + 3, 65_536, 0x8000_0000, 0xFFFF_FFFF])
-}
-
-/// Not "4 to 12 digits, then only F".
-fn damage_offset_form(dice: &mut Dice, offset: &mut Vec<u8>) {
-    match dice.below(6) {
-        0 => parts::damage_length(dice, offset),
-        1 => {
-            let digits = dice.below(4);
-            offset.iter_mut().skip(digits).for_each(|character| *character = b'F');
-        }
-        2 => offset.make_ascii_lowercase(),
-        3 => replace_one(dice, offset, b"F"),
-        4 => replace_one(dice, offset, b"0123456789"),
-        _ => replace_one(dice, offset, b"AEGf :/\x00\xFF\x06\xB5"),
-    }
-}
-
-fn replace_one(dice: &mut Dice, run: &mut [u8], alphabet: &[u8]) {
-    if !run.is_empty() {
-        let place = dice.below(run.len());
-        run[place] = dice.pick(alphabet);
-    }
-}
-
-/// One digit less or more, or any other count.
-fn damage_offset_count(dice: &mut Dice, offset: &mut [u8]) {
-    let own = offset.iter().take_while(|character| character.is_ascii_digit()).count();
-    let count = match dice.below(3) {
-        0 => own + 1,
-        1 => own.saturating_sub(1),
-        _ => dice.between(4, 12),
-    };
-    for (place, character) in offset.iter_mut().enumerate() {
-        if place >= count {
-            *character = b'F';
-        } else if place >= own {
-            *character = dice.pick(parts::DIGITS);
-        }
-    }
-}
-
-/// An offset of the same count that is most likely another one.
-fn damage_offset_digit(dice: &mut Dice, offset: &mut [u8]) {
-    let own = offset.iter().take_while(|character| character.is_ascii_digit()).count();
-    match dice.below(3) {
-        0 => offset[..own].rotate_left(usize::from(own > 0)),
-        1 => offset[..own].iter_mut().for_each(|digit| *digit = b'0' + (b'9' + 1 - *digit) % 10),
-        _ => replace_one(dice, &mut offset[..own], parts::DIGITS),
-    }
 }

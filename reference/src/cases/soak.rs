@@ -2,10 +2,11 @@
 //! of the call.
 
 use super::case::{Call, Case};
+use super::demand::{self, Demand};
 use super::dice::Dice;
 use super::mutation;
-use super::Demand;
-use super::{blocks, commands, offsets};
+use super::{blocks, commands, offsets, verifications};
+use crate::command::{DA, EA};
 
 /// The calls that take something.
 pub const CALLS: [Call; 14] = [
@@ -25,7 +26,9 @@ pub const CALLS: [Call; 14] = [
     Call::Answer,
 ];
 
-pub const DEMAND: Demand = Demand { many: 1_000_000, of_each: 100, calls: &CALLS };
+pub fn demand() -> Demand {
+    Demand { many: 1_000_000, dues: demand::of_calls(&CALLS, 100) }
+}
 
 /// The first case of a file asks for the usual settings, as in a file of commands. The others go
 /// through the calls in turn. Now and then a case is changed in a second way, so that the order
@@ -50,7 +53,16 @@ fn made(dice: &mut Dice, call: Call) -> Case {
     } else if offsets::CALLS.contains(&call) {
         offsets::case_of(dice, call)
     } else {
-        commands::case_of(dice, call)
+        command(dice, call)
+    }
+}
+
+/// Each of the commands as often as another.
+fn command(dice: &mut Dice, call: Call) -> Case {
+    match dice.below(3) {
+        0 => commands::case_of(dice, call),
+        1 => verifications::case_of(dice, call, &DA),
+        _ => verifications::case_of(dice, call, &EA),
     }
 }
 

@@ -1,6 +1,9 @@
 //! What the tests share.
 #![allow(dead_code)] // each test file uses its own part
 
+pub mod command;
+pub mod walk;
+
 use reference::Reply;
 
 pub const ACCOUNT: &[u8] = b"400000123456";
