@@ -60,8 +60,8 @@
  * of the first fault. The order is listed with the call: of several faults the
  * one listed first decides. The numbers:
  *
- *    00   done; of a verdict: the PIN verifies
- *    01   of a verdict: the PIN does not verify
+ *    00   done; of a verdict, that of DA and EA too: the PIN verifies
+ *    01   of a verdict, that of DA and EA too: the PIN does not verify
  *    03   a command's weak PIN count is not two digits, or its list has fewer
  *         digits than count times length
  *    10   the parity of the PIN key is bad
@@ -80,7 +80,7 @@
  *    25   a decimalisation table holds a character that is not a digit
  *    26   key scheme letter, key block version or key block length wrong
  *    29   usage, algorithm or mode of a key block not permitted
- *    68   command code other than BK
+ *    68   command code other than BK, DA and EA
  *    69   format known but not built, or not allowed here
  *    81   check length longer than the PIN, or an offset with another number
  *         of digits than it must cover
@@ -95,10 +95,11 @@
  * For qg_ask and below the command level any number but 00 means that nothing
  * was written, and `written` is 0. After 00 the call has written the first
  * `written` bytes of `out`, and the bytes of `out` behind them keep the values
- * they had. A verdict is lent no output and writes nothing, for 00 neither.
+ * they had. A verdict call is lent no output and writes nothing, for 00
+ * neither.
  *
  * qg_answer writes a response for every number but 901 and 902: its refusals
- * are responses too. What it writes is listed with it.
+ * are responses too, and so is a verdict 01. What it writes is listed with it.
  */
 
 #ifndef QUILLGIMLET_H
@@ -117,10 +118,11 @@ extern "C" {
  *   header       length of a command's header in bytes, 0 to 16; usual 4. A
  *                value over 16 is 902 where a command is judged. No call below
  *                the command level reads it.
- *   restricted   restricted formats; usual No. Below the command level only
- *                qg_translate reads it.
- *   variable     variable length offset; usual No. Below the command level
- *                only the four calls that take a check length read it.
+ *   restricted   restricted formats; usual No. Of the commands only BK goes by
+ *                it, and below the command level only qg_translate reads it.
+ *   variable     variable length offset; usual No. All three commands go by
+ *                it. Below the command level only the four calls that take a
+ *                check length read it.
  *
  * A flag is a uint8_t: 0 is No and any other value is Yes.
  */
@@ -136,8 +138,8 @@ typedef struct {
  *   number    one of the numbers above.
  *   written   how many bytes, digits, characters or differences the call
  *             wrote at the start of the lent output. It is 0 for every number
- *             but 00, and for every verdict; of qg_answer it is the length of
- *             the response, and 0 for 901 and 902 alone.
+ *             but 00, and for every verdict call; of qg_answer it is the
+ *             length of the response, and 0 for 901 and 902 alone.
  */
 typedef struct {
 	uint32_t number;
@@ -154,7 +156,10 @@ qg_settings qg_usual(void);
 /* ======================================================================
  * Host commands
  *
- * One command is built: BK, the offset for a terminal PIN. It takes two calls.
+ * Three commands are built. BK makes the offset for a terminal PIN. DA and EA
+ * verify a PIN against an offset that the host presents: DA where the PIN block
+ * is under a terminal key, EA where it is under a zone key. Each takes two
+ * calls.
  *
  *   1. The server hands the command to qg_ask, which writes the block that the
  *      key box must encipher under the PVK.
@@ -173,9 +178,10 @@ qg_settings qg_usual(void);
  *     parities: it alone writes the response, and it refuses with the same
  *     number before it looks at what the key box made. (901 of qg_ask is the
  *     server's own fault; qg_answer judges its own output.)
- *   - The keys and the PIN block that the key box needs stand in the command,
- *     in fields 2, 3 and 4. No call hands them out yet: after qg_ask has
- *     answered 00 the server cuts them out itself, by the table below.
+ *   - The keys and the PIN block that the key box needs stand in the command:
+ *     in fields 2, 3 and 4 of BK, in fields 1, 2 and 4 of DA and EA. No call
+ *     hands them out yet: after qg_ask has answered 00 the server cuts them out
+ *     itself, by the tables below.
  *   - The paper has no number for a key box that fails otherwise than by a
  *     parity, as where a key block does not authenticate or the box is silent.
  *     The server then has two ways. It lends the block that is lacking with
@@ -184,7 +190,7 @@ qg_settings qg_usual(void);
  *
  * A command is read from the left. The two length bytes that stand before it
  * on the line are the server's affair and no part of it. "Printable" is 20 to
- * 7E hex; hex letters are capitals.
+ * 7E hex; hex letters are capitals. The fields of BK:
  *
  *        header       printable, as many as the setting says
  *        code         two characters: BK
@@ -208,19 +214,36 @@ qg_settings qg_usual(void);
  *   12   trailer      optional: byte 19 hex and 0 to 32 printable characters;
  *                     ';' and '%' are text in it
  *
+ * The fields of DA and of EA. There is no key type and no weak list:
+ *
+ *        header       as in BK
+ *        code         two characters: DA or EA
+ *    1   PIN key      'U' and 32 hex, 'T' and 48 hex, or 'S' and a key block
+ *    2   PVK          the same; each goes by its own letter, and 'U' in one and
+ *                     'S' in the other will do
+ *    3   maximum      two characters: 12, the maximum PIN length. No other is
+ *                     taken, and the PIN is not compared with it
+ *    4 to 9           as in BK: PIN block, format, check, account, table,
+ *                     validation
+ *   10   offset       12 characters: 4 to 12 digits, then only 'F'
+ *   11   LMK id       optional: as in BK
+ *   12   trailer      optional: as in BK
+ *
  * A key block is printable. Its bytes count from 0, behind the letter 'S':
  *
  *    0       version, '0' or '1'
  *    1-4     length in four digits, 0016 to 0512, the version counted in
- *    5-6     usage:      P0, 71 or 72 of the PIN key; V1 of the PVK
+ *    5-6     usage:      of the PIN key P0, 71 or 72 in BK, P0 or 71 in DA, P0
+ *                        or 72 in EA; of the PVK V1
  *    7       algorithm:  T
- *    8       mode:       B, D or N of the PIN key; C, G or N of the PVK
+ *    8       mode:       of the PIN key B, D or N; of the PVK C, G or N in BK,
+ *                        C, V or N in DA and EA
  *    9-13    must be printable; otherwise they are not judged
  *    14-15   LMK id, 00 to 09
  *    16-     whatever follows to the length
  *
  * How both calls judge the fields: from the left, the first fault deciding,
- * and in each part a missing character before a wrong one.
+ * and in each part a missing character before a wrong one. Those of BK:
  *
  *    field 1      15   short, or none of the three
  *    2, then 3    15   the letter is missing
@@ -255,6 +278,17 @@ qg_settings qg_usual(void);
  *                 15   the LMK ids of fields 2, 3 and 11, as many as there
  *                      are, do not all agree
  *
+ * Those of DA and EA are judged alike, but for these:
+ *
+ *    1, then 2    as BK's 2 and 3, where 26 is a letter other than 'U', 'T' and
+ *                 'S'
+ *    3            15   short, or not 12
+ *    5            69   the format is 41, 42 or 48. All six that are built are
+ *                      taken: `restricted` changes nothing
+ *    10           15   short, or not 4 to 12 digits and then only 'F'
+ *    the end      15   the LMK ids of fields 1, 2 and 11, as many as there
+ *                      are, do not all agree
+ *
  * With the usual settings, for the command
  *
  *    HDR1 BK 001
@@ -267,13 +301,25 @@ qg_settings qg_usual(void);
  * good parities, the PIN block 05 34 16 7F FF ED CB A9 and an enciphered block
  * that begins 9F 3C 0A 71 qg_answer writes HDR1BL009247FFFFFFFF: header,
  * response code, 00, offset.
+ *
+ * The host keeps the offset and presents it when the PIN comes again:
+ *
+ *    HDR1 DA
+ *    U00000000000000000000000000000000
+ *    U00000000000000000000000000000000
+ *    12 0000000000000000 01 04 400000123456
+ *    0123456789012345 0123456789AN 9247FFFFFFFF
+ *
+ * qg_ask writes the same block. With what the key box made above qg_answer
+ * writes HDR1DB00. With the PIN block 05 34 16 8F FF ED CB A9, whose PIN is
+ * another, it writes HDR1DB01.
  */
 
 /*
  * Reads a command and writes the block that the key box must encipher under
  * the PVK: the command's validation data, as qg_validation_block makes it.
  *
- *   settings               `header` and `restricted` are read
+ *   settings               `header` is read, and `restricted` for a BK
  *   command, command_len   the command, header included
  *   out, out_len           where the block goes: 8 bytes or more
  *
@@ -282,8 +328,9 @@ qg_settings qg_usual(void);
  *   901   out_len is under 8
  *   902   `header` is over 16, command_len is over 4096 or under header + 2,
  *         or a byte of the header is not printable
- *    68   the command code is not BK
- *    15, 26, 29, 23, 69, 25, 03   the fields, judged as listed above
+ *    68   the command code is none of BK, DA and EA
+ *    15, 26, 29, 23, 69, 25, 03   the fields, judged as listed above; 03 is
+ *         BK's alone
  *    00   the block is in out
  *
  * On 00 it writes the 8 bytes of the block, and `written` is 8. All later
@@ -297,7 +344,8 @@ qg_reply qg_ask(qg_settings settings,
 /*
  * Takes a command with what the key box made of it, and writes the response.
  *
- *   settings                     all three of them are read
+ *   settings                     `header` and `variable` are read, and
+ *                                `restricted` for a BK
  *   pin_key_parity_good          the key box's answer on the PIN key: 0 is
  *                                bad, any other value good
  *   pvk_parity_good              the same on the PVK
@@ -306,7 +354,8 @@ qg_reply qg_ask(qg_settings settings,
  *   enciphered, enciphered_len   the block that qg_ask wrote, enciphered: 8
  *                                bytes
  *   out, out_len                 where the response goes: 65 bytes or more,
- *                                whatever the length of the response
+ *                                whatever the command and the length of the
+ *                                response
  *
  * Numbers, in the order of judging. Frame, code and fields are judged here
  * again as qg_ask judges them, whether it was called or not:
@@ -314,18 +363,27 @@ qg_reply qg_ask(qg_settings settings,
  *   901   out_len is under 65
  *   902   `header` is over 16, command_len is over 4096 or under header + 2,
  *         or a byte of the header is not printable
- *    68   the command code is not BK
- *    15, 26, 29, 23, 69, 25, 03   the fields, judged as listed above
+ *    68   the command code is none of BK, DA and EA
+ *    15, 26, 29, 23, 69, 25, 03   the fields, judged as listed above; 03 is
+ *         BK's alone
  *    15   pin_block_len is not 8, or enciphered_len is not 8
  *    10   pin_key_parity_good is 0
  *    11   pvk_parity_good is 0
  *    20, 24, 20   the PIN block, judged in the command's format and with its
  *         account as qg_read_block does
+ *         then, of BK:
  *    81   the check length is longer than the PIN; never where `variable` is
  *         Yes
  *    86   an entry of the weak list is the PIN: of the PIN's length and digit
  *         for digit. An entry of another length never is.
  *    00   the offset is in the response
+ *         of DA and EA, as qg_offset_verdict does:
+ *    81   the check length is longer than the PIN, or the offset has not
+ *         exactly as many digits as the check length says; where `variable` is
+ *         Yes: the offset has not exactly as many digits as the PIN
+ *    01   the offset is another than qg_offset makes of the same: the PIN does
+ *         not verify
+ *    00   it is the one: the PIN verifies
  *
  * What it writes:
  *
@@ -333,17 +391,20 @@ qg_reply qg_ask(qg_settings settings,
  *                  value.
  *   other numbers  header, response code, and the number in two digits;
  *   but 00         `written` is header + 4. No trailer, whatever the command
- *                  carries.
- *   00             header, response code, 00, and the offset in 12 characters,
+ *                  carries. A verdict 01 is written so too.
+ *   00 of BK       header, response code, 00, and the offset in 12 characters,
  *                  digits and then 'F', as qg_offset makes it; where the
  *                  command carries a trailer, its mark 19 hex and its
  *                  characters follow, also where these are none. `written` is
  *                  header + 16, and with a trailer 1 more and its length.
+ *   00 of DA, EA   header, response code, 00, and the trailer in the same way.
+ *                  `written` is header + 4, and with a trailer 1 more and its
+ *                  length.
  *
  * All later bytes of out keep their values, those up to the sixty-fifth too.
  * The response code is the command code with its second byte raised by one,
- * 255 becoming 0: BL for BK. Beside 68 it is that of the code that came. There
- * is no verdict here: 01 is never answered.
+ * 255 becoming 0: BL for BK, DB for DA, EB for EA. Beside 68 it is that of the
+ * code that came. BK never answers 01, and DA and EA never answer 03 or 86.
  */
 qg_reply qg_answer(qg_settings settings,
 	uint8_t pin_key_parity_good, uint8_t pvk_parity_good,
