@@ -34,8 +34,15 @@ qg_reply make_call(enum core core, enum call call, const struct load *load,
 		load->pin_block, 8, enciphered, 8, out, ROOM);
 }
 
+static bool is_meant(uint32_t number, uint32_t meant)
+{
+	return meant == REFUSED ? number != 0 : number == meant;
+}
+
 bool answered_alike(enum call call, const struct load *load)
 {
+	const uint32_t meant = call == ASK ? load->asked : load->answered;
+
 	for (size_t i = 0; i < load->count; i++) {
 		uint8_t out[CORES][ROOM] = { { 0 } };
 		const struct command *command = &load->commands[i];
@@ -44,7 +51,7 @@ bool answered_alike(enum call call, const struct load *load)
 
 		if (ours.number != other.number || ours.written != other.written)
 			return false;
-		if (memcmp(out[OURS], out[REFERENCE], ROOM) != 0 || (ours.number == 0) != load->taken)
+		if (memcmp(out[OURS], out[REFERENCE], ROOM) != 0 || !is_meant(ours.number, meant))
 			return false;
 	}
 	return true;

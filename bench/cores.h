@@ -19,7 +19,7 @@ qg_reply make_call(enum core core, enum call call, const struct load *load,
 	const struct command *command, uint8_t *out);
 
 /* Whether both cores answer each command of a load with the same number, count
- * and bytes, and with 00 just where the load says that it is taken. */
+ * and bytes, and with the number that the load says. */
 bool answered_alike(enum call call, const struct load *load);
 
 #endif

@@ -11,6 +11,13 @@ static const char demonstration[] =
 
 #define DEMONSTRATION_LEN (sizeof demonstration - 1)
 
+/* The offset that it makes, presented. */
+static const char presentation[] =
+	"HDR1DAU00000000000000000000000000000000U00000000000000000000000000000000"
+	"1200000000000000000104400000123456"
+	"01234567890123450123456789AN"
+	"9247FFFFFFFF";
+
 /* "length 16 to 512": a key block's, without the letter before it */
 #define SHORTEST_BLOCK 16u
 #define LONGEST_BLOCK 512u
@@ -22,19 +29,22 @@ static const char demonstration[] =
 
 const uint8_t enciphered[8] = { 0x9F, 0x3C, 0x0A, 0x71, 0, 0, 0, 0 };
 
-/* PIN 34567, and PIN 123456789012, which is as long as the weak PINs; both of
- * format 01 under account 400000123456. */
+/* PIN 34567, the wrong PIN 34568, and PIN 123456789012, which is as long as the
+ * weak PINs; all of format 01 under account 400000123456. */
 static const uint8_t short_pin[8] = { 0x05, 0x34, 0x16, 0x7F, 0xFF, 0xED, 0xCB, 0xA9 };
+static const uint8_t wrong_pin[8] = { 0x05, 0x34, 0x16, 0x8F, 0xFF, 0xED, 0xCB, 0xA9 };
 static const uint8_t long_pin[8] = { 0x0C, 0x12, 0x74, 0x56, 0x78, 0x82, 0x26, 0xA9 };
 
-static struct command one, full[2], cut[DEMONSTRATION_LEN], changed[DEMONSTRATION_LEN], grown[GROWTH];
+static struct command one, presented, full[2], cut[DEMONSTRATION_LEN], changed[DEMONSTRATION_LEN], grown[GROWTH];
 
 struct load loads[LOADS] = {
-	{ "demonstration command", &one, 1, short_pin, true },
-	{ "key blocks, 99 weak PINs, trailer", &full[0], 1, long_pin, true },
-	{ "the same, weak PINs near the PIN", &full[1], 1, long_pin, true },
-	{ "demonstration, cut at each place", cut, DEMONSTRATION_LEN, short_pin, false },
-	{ "demonstration, each byte changed", changed, DEMONSTRATION_LEN, short_pin, false },
+	{ "demonstration command", &one, 1, short_pin, 0, 0 },
+	{ "DA, the PIN verifies", &presented, 1, short_pin, 0, 0 },
+	{ "DA, the PIN does not verify", &presented, 1, wrong_pin, 0, 1 },
+	{ "key blocks, 99 weak PINs, trailer", &full[0], 1, long_pin, 0, 0 },
+	{ "the same, weak PINs near the PIN", &full[1], 1, long_pin, 0, 0 },
+	{ "demonstration, cut at each place", cut, DEMONSTRATION_LEN, short_pin, REFUSED, REFUSED },
+	{ "demonstration, each byte changed", changed, DEMONSTRATION_LEN, short_pin, REFUSED, REFUSED },
 };
 
 struct load growth[GROWTH];
@@ -136,20 +146,22 @@ static void make_growth(void)
 
 	for (size_t i = 0; i < GROWTH; i++) {
 		struct load *load = &growth[i];
+		const bool taken = lengths[i] <= FULL;
 
 		make_long(&grown[i], lengths[i], 0);
 		load->commands = &grown[i];
 		load->count = 1;
 		load->pin_block = long_pin;
-		load->taken = lengths[i] <= FULL;
+		load->asked = load->answered = taken ? 0 : REFUSED;
 		snprintf(load->name, sizeof load->name, "%zu bytes%s", lengths[i],
-			load->taken ? "" : ", some left over");
+			taken ? "" : ", some left over");
 	}
 }
 
 void loads_make(void)
 {
 	put(&one, demonstration);
+	put(&presented, presentation);
 	make_damaged();
 	make_long(&full[0], FULL, 0);
 	make_long(&full[1], FULL, WEAK_LEN - 1);

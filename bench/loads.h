@@ -16,12 +16,16 @@ struct command {
 	uint8_t bytes[LONGEST_COMMAND];
 };
 
+/* In place of a number: any but 00, and it may differ from command to command. */
+#define REFUSED UINT32_MAX
+
 struct load {
 	char name[40];
 	struct command *commands;
 	size_t count;
 	const uint8_t *pin_block; /* what the key box answers, beside `enciphered` */
-	bool taken;               /* each command is answered 00; else none is */
+	uint32_t asked;           /* what the asking call answers each command, */
+	uint32_t answered;        /* and what the answering call does; or REFUSED */
 };
 
 /* The key box's other answer, in every load. */
@@ -29,7 +33,7 @@ extern const uint8_t enciphered[8];
 
 /* The loads of the table, and those of one command each that show how time
  * grows with its length. */
-#define LOADS 5
+#define LOADS 7
 #define GROWTH 7
 
 extern struct load loads[LOADS];
