@@ -17,7 +17,9 @@ use Rattle.claims_blocks.specs.Promises.{listed}
 use Rattle.claims_commands.specs.Runs.{codeIn, Reads}
 use Rattle.claims_commands.specs.Claims.{Tells, readNumbers}
 use Rattle.claims_commands.proofs.PinsRead.{reads-exactly, returns-tell-differences}
-use Rattle.claims_returns.specs.Returns.{Return, IsBk, Answers, AllowedReturnsTellDifferences, settings, pinKeyGood, pvkGood, command, block, enciphered, before, after}
+use Rattle.claims_verification.specs.Calls.{answer}
+use Rattle.claims_verification.proofs.Told.{returns-tell-verdicts}
+use Rattle.claims_returns.specs.Returns.{Return, IsBk, Answers, AllowedReturnsTellDifferences, callOf, AllowedReturnsTellVerdicts, settings, pinKeyGood, pvkGood, command, block, enciphered, before, after}
 
 -- two returns, each under settings and parities of its own
 abbrev Told : Settings → Bool → Bool → Settings → Bool → Bool → Type 0
@@ -58,3 +60,8 @@ pub allowed-returns-tell-differences : AllowedReturnsTellDifferences
 allowed-returns-tell-differences a b p coded coded′ e e′ =
     told (settings a) (settings b) (pinKeyGood a) (pinKeyGood b) (pvkGood a) (pvkGood b) p (good a coded e .0 ∙ sym (good b coded′ e′ .0)) (good a coded e .1 ∙ sym (good b coded′ e′ .1))
     (command a) (command b) (block a) (block b) (enciphered a) (enciphered b) (before a) (before b) (after a) (after b) (a .reply) (b .reply) coded coded′ (a .allowed) (b .allowed) e e′
+
+pub allowed-returns-tell-verdicts : AllowedReturnsTellVerdicts
+allowed-returns-tell-verdicts w a b p coded coded′ e e′ =
+    let there = subst (λ (x : Settings). Does (answer x (callOf b)) (before b) (b .reply) (after b)) (sym p) (b .allowed) in
+    returns-tell-verdicts w (settings a) (callOf a) (callOf b) (before a) (before b) (after a) (after b) (a .reply) (b .reply) coded coded′ (a .allowed) there e e′

@@ -2,7 +2,8 @@
 -- them. What the modules `ended` and `Reads.Learnt` of a function are stands in claims_functions, specs/Once.antt.
 use Prim.Native.Nat.{ℕ}
 use mathlib.Core.Path.{_≡_}
-use mathlib.Core.List.{List}
+use mathlib.Core.Logic.{_↔_}
+use mathlib.Core.List.{List, [], _∷_}
 use mathlib.Core.Bool.{Bool, true}
 use contract.Lifetimes.{Lfts}
 use denote.Triple.Entry.{Args, Res}
@@ -13,8 +14,10 @@ use Rattle.frame.specs.declared.Code.the-variants.{Bk}
 use Rattle.face.specs.Face.{settingsOf, yes?}
 use Rattle.quillgimlet.proofs as Face
 use Rattle.claims_blocks.specs.Promises.{listed}
-use Rattle.claims_commands.specs.Runs.{codeIn, Reads}
+use Rattle.claims_commands.specs.Runs.{codeIn, Reads, Verifying, codeFor}
 use Rattle.claims_commands.specs.Claims.{Tells, readNumbers}
+use Rattle.claims_verification.specs.Calls.{Call, ReachesVerdict}
+use Rattle.claims_verification.specs.Told.{Alike, SameVerdict}
 
 -- a return of `qg_answer` that its contract allows: the arguments, the answer, and what each lent buffer holds at exit
 pub record Return : Type 0 where
@@ -75,3 +78,17 @@ abbrev pub AllowedReturnsTellDifferences : Type 0
 AllowedReturnsTellDifferences = (a b : Return) → settings a ≡ settings b → IsBk a → IsBk b → Answers a → Answers b
     → (r : ReadsPin a) × (r′ : ReadsPin b)
     × Tells (settings a .variable) (command a) (command b) (r .reaches .fields) (r′ .reaches .fields) (r .found) (r′ .found) (Agree a b)
+
+-- ---- of DA and EA
+
+-- the call that returned
+abbrev pub callOf : Return → Call
+callOf a = record { command = command a; pinKeyGood = pinKeyGood a; pvkGood = pvkGood a; block = block a; enciphered = enciphered a; room = length (before a) }
+
+-- any two returns of the call to DAs, or to EAs, with 00 or 01, under the same settings, were each compared; where the commands are alike
+-- outside the PIN block they agree exactly when both verify or neither does
+abbrev pub AllowedReturnsTellVerdicts : Type 0
+AllowedReturnsTellVerdicts = (w : Verifying) (a b : Return) → settings a ≡ settings b
+    → codeIn (settings a) (command a) ≡ codeFor w → codeIn (settings a) (command b) ≡ codeFor w
+    → listed (a .reply .number) (0 ∷ 1 ∷ []) ≡ true → listed (b .reply .number) (0 ∷ 1 ∷ []) ≡ true
+    → (r : ReachesVerdict w (settings a) (callOf a)) × (r′ : ReachesVerdict w (settings a) (callOf b)) × (Alike r r′ → Agree a b ↔ SameVerdict r r′)
