@@ -46,11 +46,11 @@ pub record Finds {A R P : Type 0} (command : Code) (reader : List ℕ → ℕ �
   pub found : P
   pub paired : pinIn s (reaches .fields) (reaches .rows) ≡ done found
 
--- ---- of BK
-
 -- "alike except for the sixteen characters of the enciphered PIN block", which begin at a place
 abbrev pub AlikeBut : ℕ → List ℕ → List ℕ → Type 0
 AlikeBut place s t = Outside 16 place s t
+
+-- ---- of BK
 
 -- both slices have 8 bytes and both parities are good
 abbrev pub Reaches : Settings → Bool → Bool → ℕ → List ℕ → List ℕ → List ℕ → Type 0

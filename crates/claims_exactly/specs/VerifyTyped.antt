@@ -65,7 +65,7 @@ DaIsAsked = (room : ℕ) → 8 ≤ room
 abbrev pub daSaid : List ℕ → ℕ → Said ℕ
 daSaid offset room = answered usually true true (printed "HDR1DA" ++ daText offset) blockP2 encipheredP9 room
 
--- P9's offset verifies, and its trailer comes back; with another last digit it does not, and nothing comes back
+-- P9's offset verifies, and its trailer comes back; with another last digit it does not, and no trailer comes back
 abbrev pub DaIsAnswered : Type 0
 DaIsAnswered = (room : ℕ) → 65 ≤ room
     → (daSaid (printed "9247") room ≡ record { number = 0; written = printed "HDR1DB00" ++ (0x19 ∷ printed "till 4") })

@@ -102,4 +102,6 @@ verify-commands = (
   refl,
   refl,
   refl,
+  refl,
+  refl,
 )

@@ -6,18 +6,21 @@ use mathlib.Core.Path.{_≡_, refl, sym, ap, _∙_, subst}
 use mathlib.Core.Logic.{_↔_, _⊎_, inl, inr}
 use mathlib.Core.List.{List, [], _∷_}
 use mathlib.Core.Bool.{Bool, true, false, false≢true}
-use lib.ListN.{take, drop}
+use lib.ListN.{length, take, drop}
+use lib.Dec.{eqb}
 use Rattle.nibbles.specs.Nibbles.{same}
-use Rattle.numbers.specs.Numbers.{done}
+use Rattle.numbers.specs.Numbers.{done, unless}
 use Rattle.numbers.specs.Promise.{Said}
-use Rattle.numbers.specs.declared.Refusal.the-variants.{Unverified01}
-use Rattle.numbers.proofs.Laws.{passed}
+use Rattle.numbers.specs.declared.Refusal.the-variants.{Unverified01, Check81}
+use Rattle.numbers.proofs.Laws.{passed, then-done}
 use Rattle.pins.specs.Pins.{verdict}
 use Rattle.settings.specs.declared.Settings.{Settings}
+use Rattle.ibm3624.specs.Ibm3624.{covers, offsetOf}
 use Rattle.offsettexts.specs.OffsetTexts.{offsetText, digitEnd}
 use Rattle.uses.specs.declared.Use.{Use}
 use Rattle.keyfields.specs.declared.Keys.{Keys}
 use Rattle.sealed.specs.declared.Sealed.{Sealed}
+use Rattle.pairing.specs.Pairing.{pairAt}
 use Rattle.verifyfields.specs.VerifyFields.{front, verifyFields, offsetIn}
 use Rattle.verifyfields.specs.declared.Verification.{Verification}
 use Rattle.verifyfinish.specs.VerifyFinish.{verifyFinish}
@@ -32,7 +35,7 @@ use Rattle.claims_commands.proofs.PinsRead.{returns-agree}
 use Rattle.claims_commands.proofs.VerifyLayout.{verifyLayout}
 use Rattle.claims_commands.proofs.Verifying.{verifyShape}
 use Rattle.claims_verification.specs.Calls.{Call, answer, shownIn, ReachesVerdict}
-use Rattle.claims_verification.specs.Told.{defined, Verifies, SameVerdict, Alike, SameDigitsCovered, VerdictsTellNoMore, VerdictsTellOneAnswer, ReturnsTellVerdicts}
+use Rattle.claims_verification.specs.Told.{VerifyReadAlike, VerifyAnswerAlike, defined, Verifies, SameVerdict, Alike, SameDigitsCovered, VerdictsTellNoMore, VerdictsTellOneAnswer, ReturnsTellVerdicts}
 use Rattle.claims_verification.proofs.Verdicts.{finish-judged, tested, alike-exactly, counted-exactly, reaches-verdict-exactly}
 
 -- ---- two verdicts
@@ -53,9 +56,15 @@ verdicts-told false true X Y p q = (λ e. absurd (let z : _≡_ {A = ℕ} 0 1 = 
     by (inr c) = c .1 (q .0 refl)
 verdicts-told false false X Y p q = (λ _. inr (λ x. false≢true (p .1 x), λ y. false≢true (q .1 y)), λ _. refl)
 
--- a verdict brings nothing
-verdict-nothing : (x : Bool) (ds : List ℕ) → verdict x ≡ done ds → ds ≡ []
-verdict-nothing x ds e = sym (passed Unverified01 x [] ds e .1)
+-- a finish brings nothing
+finish-nothing : (variable : Bool) (s : List ℕ) (v : Verification) (rows : List ℕ × List ℕ) (ds : List ℕ) → verifyFinish variable s v rows ≡ done ds → ds ≡ []
+unfolding verifyFinish
+finish-nothing variable s v rows ds e =
+    let n = then-done (pairAt s (v .sealed) (v .offsetting) rows) _ ds e in
+    let pin = n .0 .0 in
+    let m = then-done (covers variable (v .offsetting .check) (length pin)) _ ds (n .2) in
+    let o = then-done (unless Check81 (eqb (length (offsetIn s v)) (m .0)) (m .0)) _ ds (m .2) in
+    sym (passed Unverified01 (same (offsetIn s v) (offsetOf (m .0) pin (n .0 .1))) [] ds (o .2) .1)
 
 -- ---- a run that is compared
 
@@ -96,7 +105,19 @@ offsetLayout pinKey = record {
   looked = λ ks block at p s t from. from (verifyLayout pinKey .tail ks block .writing at .value p .offset) (omega arith);
 }
 
--- ---- two of them
+-- ---- two of them, as far as the block
+
+pub verify-read-alike : VerifyReadAlike
+unfolding verifyFields front
+verify-read-alike w s t at v v′ past past′ e e′ alike = read-alike 16 Keys Sealed Verification (List ℕ) (verifyLayout (keyFor w)) s t at v v′ past past′ e e′ alike .same
+
+pub verify-answer-alike : VerifyAnswerAlike
+verify-answer-alike w settings a b r r′ alike =
+    shape-alike (verifyShape w settings) (verifyLayout (keyFor w)) (laid (keyFor w)) (λ v s. refl) (λ (ds : List ℕ). ds ≡ []) (λ x y p q _. p ∙ sym q)
+    (a .pinKeyGood) (a .pvkGood) (b .pinKeyGood) (b .pvkGood) (a .room) (b .room) (a .command) (b .command) (a .block) (b .block) (a .enciphered) (b .enciphered)
+    r r′ alike (finish-nothing (settings .variable) (a .command) (r .fields) (r .rows)) (finish-nothing (settings .variable) (b .command) (r′ .fields) (r′ .rows))
+
+-- ---- as far as the verdict
 
 module _ (w : Verifying) (settings : Settings) (a b : Call) (r : ReachesVerdict w settings a) (r′ : ReachesVerdict w settings b) (alike : Alike r r′) where
   -- they answer alike exactly when their tests come out alike
@@ -104,9 +125,7 @@ module _ (w : Verifying) (settings : Settings) (a b : Call) (r : ReachesVerdict 
   one-answer =
       let here = finish-test w settings a r in
       let there = finish-test w settings b r′ in
-      let finishes = shape-alike (verifyShape w settings) (verifyLayout (keyFor w)) (laid (keyFor w)) (λ v s. refl) (λ (ds : List ℕ). ds ≡ []) (λ x y p q _. p ∙ sym q)
-      (a .pinKeyGood) (a .pvkGood) (b .pinKeyGood) (b .pvkGood) (a .room) (b .room) (a .command) (b .command) (a .block) (b .block) (a .enciphered) (b .enciphered)
-      (r .finds .reaches) (r′ .finds .reaches) alike (λ ds e. verdict-nothing (test w settings a r) ds (sym here ∙ e)) (λ ds e. verdict-nothing (test w settings b r′) ds (sym there ∙ e)) in
+      let finishes = verify-answer-alike w settings a b (r .finds .reaches) (r′ .finds .reaches) alike in
       let tests = verdicts-told (test w settings a r) (test w settings b r′) (Verifies r) (Verifies r′) (test-exactly w settings a r) (test-exactly w settings b r′) in
       (λ e. tests .0 (sym here ∙ finishes .0 e ∙ there), λ e. finishes .1 (here ∙ tests .1 e ∙ sym there))
 

@@ -42,7 +42,7 @@ use Rattle.claims_commands.specs.Runs.{Verifying, terminal, zone, codeFor, keyF
 use Rattle.claims_commands.specs.Witnesses.{Run, runP9, runP10, runOther}
 use Rattle.claims_commands.proofs.Cores.{papers-exchange}
 use Rattle.claims_verification.specs.Calls.{answer, shownIn, ReachesVerdict}
-use Rattle.claims_verification.specs.Witnesses.{command, in01, offsetP9, noOffset, runSix, Meets, BothVerified, NeitherVerified, OtherLengths, OneVerified, LongOffset, RestrictedRun, paperCall, PapersVerification, VerdictsMet}
+use Rattle.claims_verification.specs.Witnesses.{command, in01, offsetP9, noOffset, runSix, Meets, BothVerified, NeitherVerified, OtherLengths, OneVerified, UnlikeUnverified, VariableRuns, LongOffset, RestrictedRun, paperCall, PapersVerification, VerdictsMet}
 
 -- the fields of the command
 abbrev v : Verification
@@ -132,6 +132,16 @@ unfolding nibs xors every leading same allOf begins valueOf codes.codeOf content
 one-verified terminal = (meets terminal offsetP9 runP9 runOther pinP9 pinOther (refl, refl, refl, refl, refl, refl, refl) (refl, refl, refl, refl, refl, refl, refl) refl refl (differ 4 7 8 (pinP9 .0) (pinOther .0) refl refl (omega arith)), λ e. omega (arith, ap (λ (ds : List ℕ). getD ds 3 0) e), (refl, refl))
 one-verified zone = (meets zone offsetP9 runP9 runOther pinP9 pinOther (refl, refl, refl, refl, refl, refl, refl) (refl, refl, refl, refl, refl, refl, refl) refl refl (differ 4 7 8 (pinP9 .0) (pinOther .0) refl refl (omega arith)), λ e. omega (arith, ap (λ (ds : List ℕ). getD ds 3 0) e), (refl, refl))
 
+unlike-unverified : UnlikeUnverified
+unfolding nibs xors every leading same allOf begins valueOf codes.codeOf contents readRow differences pinWithNatural isFramed opening run number trailer hexKey lettered key lmkField keyPair formatField sealed shapeOf validationField offsetting offsetField end slices parities boxed front verifyFields verifyFinish verifyAnswer answerBy answered reaching meets
+unlike-unverified terminal = (meets terminal noOffset runP9 runOther pinP9 pinOther (refl, refl, refl, refl, refl, refl, refl) (refl, refl, refl, refl, refl, refl, refl) refl refl (differ 4 7 8 (pinP9 .0) (pinOther .0) refl refl (omega arith)), λ e. omega (arith, ap (λ (ds : List ℕ). getD ds 3 0) e), (refl, refl))
+unlike-unverified zone = (meets zone noOffset runP9 runOther pinP9 pinOther (refl, refl, refl, refl, refl, refl, refl) (refl, refl, refl, refl, refl, refl, refl) refl refl (differ 4 7 8 (pinP9 .0) (pinOther .0) refl refl (omega arith)), λ e. omega (arith, ap (λ (ds : List ℕ). getD ds 3 0) e), (refl, refl))
+
+variable-runs : VariableRuns
+unfolding nibs xors every leading same allOf begins valueOf codes.codeOf contents readRow differences pinWithNatural isFramed opening run number trailer hexKey lettered key lmkField keyPair formatField sealed shapeOf validationField offsetting offsetField end slices parities boxed front verifyFields verifyFinish verifyAnswer answerBy answered reaching meets
+variable-runs terminal = (refl, refl)
+variable-runs zone = (refl, refl)
+
 long-offset : LongOffset
 unfolding nibs xors every leading same allOf begins valueOf codes.codeOf contents readRow differences pinWithNatural isFramed opening run number trailer hexKey lettered key lmkField keyPair formatField sealed shapeOf validationField offsetting offsetField end slices parities boxed front verifyFields verifyFinish verifyAnswer answerBy answered reaching meets
 long-offset terminal = refl
@@ -152,4 +162,4 @@ papers-verification terminal = (rw bk-offset refl, refl)
 papers-verification zone = (rw bk-offset refl, refl)
 
 pub verdicts-met : VerdictsMet
-verdicts-met = (both-verified, neither-verified, other-lengths, one-verified, long-offset, restricted-run, papers-verification)
+verdicts-met = (both-verified, neither-verified, other-lengths, one-verified, unlike-unverified, variable-runs, long-offset, restricted-run, papers-verification)

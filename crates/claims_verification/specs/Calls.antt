@@ -10,9 +10,11 @@ use Rattle.settings.specs.declared.Settings.{Settings}
 use Rattle.ibm3624.specs.Ibm3624 as offset
 use Rattle.offsettexts.specs.OffsetTexts.{digitEnd}
 use Rattle.offsetting.specs.Offsetting.{part}
+use Rattle.keybox.specs.KeyBox as keybox
+use Rattle.verifyfields.specs.VerifyFields.{verifyFields}
 use Rattle.verifyfields.specs.declared.Verification.{Verification}
 use Rattle.commands.specs.Commands.{answered}
-use Rattle.claims_commands.specs.Runs.{Verifying, FindsPin}
+use Rattle.claims_commands.specs.Runs.{Reached, Verifying, codeFor, keyFor, FindsPin}
 
 -- "The answering call takes the command again, the deciphered PIN block, the enciphered validation block, two parity answers from the
 -- key box"; and how much room it is lent
@@ -28,7 +30,12 @@ pub record Call : Type 0 where
 abbrev pub answer : Settings → Call → Said ℕ
 answer settings a = answered settings (a .pinKeyGood) (a .pvkGood) (a .command) (a .block) (a .enciphered) (a .room)
 
--- it is not refused before its PIN is found
+-- it is not refused before its block is looked at
+abbrev pub Reaches : Verifying → Settings → Call → Type 0
+Reaches w settings a =
+    Reached (codeFor w) (verifyFields (keyFor w)) (keybox.boxed (length (a .command)) (a .pinKeyGood) (a .pvkGood) (a .block) (a .enciphered)) (settings .header) (a .room) (a .command)
+
+-- nor before its PIN is found
 abbrev pub Finds : Verifying → Settings → Call → Type 0
 Finds w settings a = FindsPin w settings (a .pinKeyGood) (a .pvkGood) (a .room) (a .command) (a .block) (a .enciphered)
 

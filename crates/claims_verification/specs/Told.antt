@@ -12,11 +12,32 @@ use Rattle.numbers.specs.declared.Reply.{Reply}
 use Rattle.settings.specs.declared.Settings.{Settings}
 use Rattle.ibm3624.specs.Ibm3624.{offsetOf}
 use Rattle.offsettexts.specs.OffsetTexts.{offsetText}
+use Rattle.fields.specs.Fields.{read}
+use Rattle.verifyfields.specs.VerifyFields.{verifyFields}
+use Rattle.verifyfields.specs.declared.Verification.{Verification}
+use Rattle.verifyfinish.specs.VerifyFinish.{verifyFinish}
 use Rattle.claims_blocks.specs.Promises.{listed}
-use Rattle.claims_commands.specs.Runs.{codeIn, AlikeBut, Verifying, codeFor}
-use Rattle.claims_verification.specs.Calls.{Call, answer, shownIn, ReachesVerdict}
+use Rattle.claims_commands.specs.Runs.{codeIn, AlikeBut, Verifying, codeFor, keyFor}
+use Rattle.claims_verification.specs.Calls.{Call, answer, Reaches, shownIn, ReachesVerdict}
 
--- "the differences over the covered digits": PIN digit less natural digit, modulo ten, over the last m digits
+-- ---- as far as the block
+
+-- DAs, or EAs, that are both read, and are alike outside the block's characters, are read alike
+abbrev pub VerifyReadAlike : Type 0
+VerifyReadAlike = (w : Verifying) (s t : List ℕ) (at : ℕ) (v v′ : Verification) (past past′ : ℕ)
+    → verifyFields (keyFor w) s at ≡ read v past → verifyFields (keyFor w) t at ≡ read v′ past′ → AlikeBut (v .sealed .block) s t
+    → v ≡ v′
+
+-- and they answer alike exactly when they finish alike, also where they are refused for their block, or for 81
+abbrev pub VerifyAnswerAlike : Type 0
+VerifyAnswerAlike = (w : Verifying) (settings : Settings) (a b : Call) (r : Reaches w settings a) (r′ : Reaches w settings b)
+    → AlikeBut (r .fields .sealed .block) (a .command) (b .command)
+    → (answer settings a ≡ answer settings b)
+    ↔ (verifyFinish (settings .variable) (a .command) (r .fields) (r .rows) ≡ verifyFinish (settings .variable) (b .command) (r′ .fields) (r′ .rows))
+
+-- ---- as far as the verdict
+
+-- the differences over the covered digits: PIN digit less natural digit, modulo ten, over the last m digits
 abbrev pub defined : {w : Verifying} {settings : Settings} {a : Call} → ReachesVerdict w settings a → List ℕ
 defined r = offsetOf (r .m) (r .finds .found .0) (r .finds .found .1)
 
@@ -50,7 +71,7 @@ VerdictsTellOneAnswer = (w : Verifying) (settings : Settings) (a b : Call) (r : 
     × ((answer settings a .written ≡ answer settings b .written) ↔ SameVerdict r r′)
 
 -- so of two returns of the answering call with 00 or 01, as its promise describes them: each was compared, and the numbers and the bytes
--- that are counted agree exactly when both verify or neither does. The room is the length of the buffer that is lent; nothing hangs on it
+-- that are counted agree exactly when both verify or neither does. The room may be any; in the call's promise it is the length of the buffer that is lent
 abbrev pub ReturnsTellVerdicts : Type 0
 ReturnsTellVerdicts = (w : Verifying) (settings : Settings) (a b : Call) (before before′ after after′ : List ℕ) (reply reply′ : Reply)
     → codeIn settings (a .command) ≡ codeFor w → codeIn settings (b .command) ≡ codeFor w

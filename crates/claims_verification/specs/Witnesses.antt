@@ -5,7 +5,7 @@ use mathlib.Core.Path.{_≡_}
 use mathlib.Core.List.{List, [], _∷_, _++_}
 use mathlib.Core.Bool.{true}
 use lib.ListN.{length, replicate}
-use Rattle.settings.specs.Settings.{usually, restrictedTo}
+use Rattle.settings.specs.Settings.{usually, restrictedTo, variably}
 use Rattle.responses.specs.Responses.{roomToAnswer}
 use Rattle.offsetting.specs.Offsetting.{part}
 use Rattle.texts.specs.Characters.{printed}
@@ -15,6 +15,7 @@ use Rattle.claims_commands.specs.Runs.{Verifying, terminal, zone}
 use Rattle.claims_commands.specs.Cores.{commandOf}
 use Rattle.claims_commands.specs.Witnesses.{zeroKey, Run, runP9, runP10, runOther}
 use Rattle.claims_verification.specs.Calls.{Call, answer, ReachesVerdict}
+use Rattle.claims_verification.specs.Verdicts.{responseFor}
 use Rattle.claims_verification.specs.Told.{defined, Alike}
 
 -- ---- the command
@@ -38,12 +39,12 @@ call w format offset a =
 abbrev pub in01 : Verifying → List ℕ → Run → Call
 in01 w offset a = call w (printed "01") offset a
 
--- P9's offset over four digits, and one that is no run's
+-- P9's offset over four digits, and one that none of these runs has
 abbrev pub offsetP9 : List ℕ
 offsetP9 = printed "9247FFFFFFFF"
 
 abbrev pub noOffset : List ℕ
-noOffset = printed "9248FFFFFFFF"
+noOffset = printed "9249FFFFFFFF"
 
 -- PIN 112447 against natural 953200: of its six differences the last four are P9's
 abbrev pub runSix : Run
@@ -87,6 +88,15 @@ OtherLengths = (w : Verifying) → (met : Meets w offsetP9 runP9 runSix)
 abbrev pub OneVerified : Type 0
 OneVerified = (w : Verifying) → (met : Meets w offsetP9 runP9 runOther) × (defined (met .first) ≡ defined (met .second) → ⊥) × Numbers w offsetP9 runP9 runOther 0 1
 
+-- the differences do not agree, and both are 01: which they are is not told
+abbrev pub UnlikeUnverified : Type 0
+UnlikeUnverified = (w : Verifying) → (met : Meets w noOffset runP9 runOther) × (defined (met .first) ≡ defined (met .second) → ⊥) × Numbers w noOffset runP9 runOther 1 1
+
+-- with variable length all five digits are compared, whatever the check length
+abbrev pub VariableRuns : Type 0
+VariableRuns = (w : Verifying)
+    → (answer (variably usually true) (in01 w (printed "49247FFFFFFF") runP9) .number ≡ 0) × (answer (variably usually true) (in01 w (printed "49247FFFFFFF") runP10) .number ≡ 0)
+
 -- five digits where four are covered are not cut to these: P9's four and one more are 81
 abbrev pub LongOffset : Type 0
 LongOffset = (w : Verifying) → answer usually (in01 w (printed "92477FFFFFFF") runP9) .number ≡ 81
@@ -101,18 +111,13 @@ RestrictedRun = (w : Verifying) → answer (restrictedTo usually true) (call w (
 abbrev pub paperCall : Call
 paperCall = record { command = commandOf usualAccount; pinKeyGood = true; pvkGood = true; block = runP9 .block; enciphered = runP9 .enciphered; room = roomToAnswer }
 
--- `HDR1` and the response code
-abbrev pub answerFor : Verifying → List ℕ
-answerFor terminal = printed "HDR1DB"
-answerFor zone = printed "HDR1EB"
-
 -- where field 10 has what BK answers behind `HDR1BL00`, the answer is `HDR1DB00` or `HDR1EB00`; where it has another offset, `HDR1DB01` or
 -- `HDR1EB01`
 abbrev pub PapersVerification : Type 0
 PapersVerification = (w : Verifying)
-    → (answer usually (in01 w (part (answer usually paperCall .written) 8 12) runP9) ≡ record { number = 0; written = answerFor w ++ printed "00" })
-    × (answer usually (in01 w noOffset runP9) ≡ record { number = 1; written = answerFor w ++ printed "01" })
+    → (answer usually (in01 w (part (answer usually paperCall .written) 8 12) runP9) ≡ record { number = 0; written = printed "HDR1" ++ (responseFor w ++ printed "00") })
+    × (answer usually (in01 w noOffset runP9) ≡ record { number = 1; written = printed "HDR1" ++ (responseFor w ++ printed "01") })
 
 -- all of them
 abbrev pub VerdictsMet : Type 0
-VerdictsMet = BothVerified × NeitherVerified × OtherLengths × OneVerified × LongOffset × RestrictedRun × PapersVerification
+VerdictsMet = BothVerified × NeitherVerified × OtherLengths × OneVerified × UnlikeUnverified × VariableRuns × LongOffset × RestrictedRun × PapersVerification

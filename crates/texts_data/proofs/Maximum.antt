@@ -19,10 +19,10 @@ from-to = number-exact 12 12 Field15 (omega arith)
 
 pub maximum-exact : Exact (number 12 12 Field15) maxima
 maximum-exact = record {
-  back = λ _ rest _. from-to .back 12 rest (omega arith, omega arith);
+  back = λ p rest g. from-to .back 12 rest (omega arith, omega arith);
   only = λ cs v n e.
       let o = from-to .only cs v n e in
       let twelve : o .part ≡ 12 = omega (arith, o .good .0, o .good .1) in
       record { part = tt; rest = o .rest; good = tt; whole = o .whole ∙ ap (λ (v : ℕ). asTwoDigits v ++ o .rest) twelve; count = o .count; same = o .same ∙ twelve };
-  apart = apart-of (number 12 12 Field15) maxima (λ _ rest _. from-to .back 12 rest (omega arith, omega arith)) (λ _ _ _ _ _ _ _ _. refl);
+  apart = apart-of (number 12 12 Field15) maxima (λ p rest g. from-to .back 12 rest (omega arith, omega arith)) (λ p q rest rest′ g h e v. refl);
 }

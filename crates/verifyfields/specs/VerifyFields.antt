@@ -1,5 +1,5 @@
 -- The fields of DA and EA, which verify a PIN that is enciphered under a terminal's or a zone's key. What the two differ in is the use of
--- that key, `pinKey`. The fields are numbered as the paper numbers BK's.
+-- that key, `pinKey`. The fields are numbered from 1 as they stand; 4 to 9, 11 and 12 have BK's numbers.
 use Prim.Native.Nat.{ℕ}
 use mathlib.Core.List.{List, map}
 use mathlib.Core.Bool.{Bool, false}
