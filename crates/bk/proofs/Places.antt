@@ -1,7 +1,7 @@
 -- What the two calls make of a command that was read is as long as it should be.
 -- Assumes nothing.
 use Prim.Native.Nat.{ℕ}
-use mathlib.Core.Path.{_≡_, ap, _∙_, subst}
+use mathlib.Core.Path.{_≡_, subst}
 use mathlib.Core.List.{List}
 use mathlib.Core.Bool.{Bool}
 use lib.ListN.{length}
@@ -9,7 +9,7 @@ use Rattle.nibbles.specs.Nibbles.{packs}
 use Rattle.numbers.specs.Numbers.{done, andThen}
 use Rattle.numbers.proofs.Laws.{then-done, value-of}
 use Rattle.settings.specs.declared.Settings.{Settings}
-use Rattle.answers.proofs.Laws.{Sixteen, sixteen-bytes}
+use Rattle.answers.proofs.Laws.{Sixteen}
 use Rattle.keybox.specs.KeyBox.{boxed}
 use Rattle.keybox.proofs.Laws.{boxed-sixteen}
 use Rattle.fields.specs.Fields.{ruled, unpointed}
@@ -35,10 +35,6 @@ asked-row settings s at bytes e =
     let p = f .0 in
     let r = ruled-read (bkFields (settings .restricted) s at) p (f .1) in
     pairing.asked-row s (p .offsetting) (placed (settings .restricted) s at p (r .0) (r .1) .offsetting) bytes (pointing-done 0 0 (askedAt s (p .offsetting)) bytes (f .2))
-
--- it has eight bytes
-pub asked-eight : (settings : Settings) (s : List ℕ) (at : ℕ) (bytes : List ℕ) → bkAsk settings s at ≡ done bytes → length bytes ≡ 8
-asked-eight settings s at bytes e = let r = asked-row settings s at bytes e in ap length (r .2) ∙ sixteen-bytes (r .0) (r .1)
 
 -- ---- the answering call
 

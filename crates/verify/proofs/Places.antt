@@ -1,14 +1,14 @@
 -- What the two calls make of a command that was read is as long as it should be.
 -- Assumes nothing.
 use Prim.Native.Nat.{ℕ}
-use mathlib.Core.Path.{_≡_, ap, _∙_, subst}
+use mathlib.Core.Path.{_≡_, subst}
 use mathlib.Core.List.{List}
 use mathlib.Core.Bool.{Bool}
 use lib.ListN.{length}
 use Rattle.nibbles.specs.Nibbles.{packs}
 use Rattle.numbers.specs.Numbers.{done, andThen}
 use Rattle.numbers.proofs.Laws.{then-done, value-of}
-use Rattle.answers.proofs.Laws.{Sixteen, sixteen-bytes}
+use Rattle.answers.proofs.Laws.{Sixteen}
 use Rattle.keybox.specs.KeyBox.{boxed}
 use Rattle.fields.specs.Fields.{ruled, unpointed}
 use Rattle.fields.proofs.Reading.{ruled-read}
@@ -33,10 +33,6 @@ asked-row pinKey s at bytes e =
     let p = f .0 in
     let r = ruled-read (verifyFields pinKey s at) p (f .1) in
     pairing.asked-row s (p .offsetting) (placed pinKey s at p (r .0) (r .1) .offsetting) bytes (pointing-done 0 0 (askedAt s (p .offsetting)) bytes (f .2))
-
--- it has eight bytes
-pub asked-eight : (pinKey : Use) (s : List ℕ) (at : ℕ) (bytes : List ℕ) → verifyAsk pinKey s at ≡ done bytes → length bytes ≡ 8
-asked-eight pinKey s at bytes e = let r = asked-row pinKey s at bytes e in ap length (r .2) ∙ sixteen-bytes (r .0) (r .1)
 
 -- ---- the answering call
 
