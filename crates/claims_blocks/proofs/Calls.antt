@@ -1,7 +1,7 @@
 -- The calls: what they come to where nothing stands before the block, and what a call that is done has judged.
 -- Assumes nothing.
 use Prim.Native.Nat.{ℕ, _≤_}
-use mathlib.Core.Path.{_≡_, refl, sym, ap, _∙_}
+use mathlib.Core.Path.{_≡_, sym, ap, _∙_}
 use mathlib.Core.Logic.{inl, inr, ⊎-elim}
 use mathlib.Core.List.{List}
 use mathlib.Core.Bool.{Bool}
@@ -16,7 +16,6 @@ use Rattle.numbers.proofs.Laws.{then-done, passed, value-of}
 use Rattle.formats.specs.Formats.{veiled}
 use Rattle.codes.specs.Codes.{codeOf, formatOf, knownCode}
 use Rattle.formats.specs.declared.Format.{Format}
-use Rattle.formats.specs.declared.Format.the-variants.{F03}
 use Rattle.codes.specs.declared.Code.the-variants.{Built}
 use Rattle.pins.specs.Pins.{pinHanded, accountOf, accountField}
 use Rattle.blocks.specs.Blocks.{veil, readRow, writeRow}
@@ -27,10 +26,11 @@ use Rattle.blockcalls.proofs.Laws.{call-read}
 use Rattle.restriction.specs.Restriction.{permitted}
 use Rattle.pairs.specs.Pairs.{pairOf}
 use Rattle.translation.specs.Translation.{translateBlock}
-use Rattle.claims_blocks.specs.Claims.{Carries, IsPin, IsBytes, Written, WrittenReads, ReadOrRefused, BlockRefusedExactly, BlockAcceptedIn03, TranslationKeeps}
+use Rattle.claims_blocks.specs.Claims.{IsPin, IsBytes, Written, WrittenReads, ReadOrRefused, BlockRefusedExactly, BlockLengthExactly, TranslationKeeps}
 use Rattle.claims_blocks.proofs.Judged.{judged, Only, Fault, decided, not-done, not-refused}
 use Rattle.claims_blocks.proofs.Bytes.{sixteen, is-row, nibs-row, packs-bytes, pinned-pin, is-pin, pin-handed, handed-pin}
-use Rattle.claims_blocks.proofs.Trips.{veil-row, round-trip, fillOf, fill-row, accepted-written, read-faults, accepted-in-03}
+use Rattle.claims_blocks.proofs.Trips.{veil-row, round-trip, fillOf, fill-row, accepted-written, read-faults}
+use Rattle.claims_blocks.proofs.Lengths.{length-exactly}
 
 -- a format that is built and an account that is one
 pub record Handed (code : ℕ) (account : List ℕ) : Type 0 where
@@ -73,16 +73,16 @@ module _ (code : ℕ) (account : List ℕ) (h : Handed code account) where
       )
 
   -- bytes that are read as a PIN are written by it
-  read-bytes : (block pin : List ℕ) (room : ℕ) → Carries (h .format) → length block ≡ 8 → IsBytes block → 12 ≤ room → readBlock code block account room ≡ done pin
+  read-bytes : (block pin : List ℕ) (room : ℕ) → length block ≡ 8 → IsBytes block → 12 ≤ room → readBlock code block account room ≡ done pin
       → (fill : List ℕ) × IsPin pin × (length fill ≡ 8) × IsBytes fill × (writeBlock code pin account fill 8 ≡ done block)
-  read-bytes block pin room c s b r e =
+  read-bytes block pin room s b r e =
       let f = h .format in
       let w = is-row (field h) (field-sixteen account (h .digits) (h .known)) in
       let q = nibs-row block s b in
       let clear = veil (veiled f) (field h) (nibs block) in
       let fill = fillOf f clear in
       let row = sixteen fill (fill-row f clear (veil-row (veiled f) (field h) (nibs block) w q)) in
-      let a = accepted-written f (field h) (nibs block) pin c w q (sym (reading block room s r) ∙ e) in (
+      let a = accepted-written f (field h) (nibs block) pin w q (sym (reading block room s r) ∙ e) in (
         packs fill,
         a .0,
         sixteen-bytes fill row,
@@ -153,19 +153,18 @@ read-or-refused code f c block account digits room s a r =
     (decided o (faults code account (handed-in code f account digits c a) block room s r))
 
 pub block-refused-exactly : BlockRefusedExactly
-block-refused-exactly code f c k block account digits room s b a r =
+block-refused-exactly code f c block account digits room s b a r =
     let handed = handed-in code f account digits c a in (
       λ h pin fill p l q room′ r′ e. not-refused (readBlock code block account room) pin h (written-reads code pin account fill block room′ room q r e),
       λ h. not-done (readBlock code block account room) (faults code account handed block room s r) (λ pin e.
-          let w = read-bytes code account handed block pin room k s b r e in
+          let w = read-bytes code account handed block pin room s b r e in
           h pin (w .0) (w .1) (w .2) (w .3) 8 (lit≤ tt) (w .4)),
     )
 
-pub block-accepted-in-03 : BlockAcceptedIn03
-unfolding codeOf
-block-accepted-in-03 block account digits ds room s b a r =
-    let same = reading 3 account (handed-in 3 F03 account digits refl a) block room s r in
-    rw same (accepted-in-03 (accountField digits) (nibs block) ds (nibs-row block s b))
+pub block-length-exactly : BlockLengthExactly
+block-length-exactly code f c block account digits room s b a r =
+    rw (reading code account (handed-in code f account digits c a) block room s r)
+    (length-exactly f (accountField digits) (nibs block) (is-row (accountField digits) (field-sixteen account digits a)) (nibs-row block s b))
 
 -- the two formats of a translation
 pair-formats : (restricted : Bool) (from to : ℕ) (pair : Format × Format) → pairOf restricted from to ≡ done pair

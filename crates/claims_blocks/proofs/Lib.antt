@@ -4,6 +4,7 @@ pub mod Bytes
 pub mod Rows
 pub mod Table
 pub mod Trips
+pub mod Lengths
 pub mod Calls
 pub mod Promises
 pub mod Numbers

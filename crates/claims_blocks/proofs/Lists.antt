@@ -46,6 +46,12 @@ module _ (p : ℕ → Bool) where
   run-is [] (n ∷ ns) h k = rw k
   run-is (m ∷ ms) ns h k = rw (and-left (p m) (every p ms) h) (ap (λ (xs : List ℕ). m ∷ xs) (run-is ms ns (and-right (p m) (every p ms) h) k))
 
+  -- or nothing is left
+  pub run-all : (ns : List ℕ) → every p ns ≡ true → leading p ns ≡ ns
+  unfolding every leading
+  run-all [] h = refl
+  run-all (n ∷ ns) h = rw (and-left (p n) (every p ns) h) (ap (λ (xs : List ℕ). n ∷ xs) (run-all ns (and-right (p n) (every p ns) h)))
+
 -- a test on what is made of those that pass another
 pub every-map : (p q : ℕ → Bool) (g : ℕ → ℕ) → ((n : ℕ) → p n ≡ true → q (g n) ≡ true) → (ns : List ℕ) → every p ns ≡ true → every q (map g ns) ≡ true
 unfolding every

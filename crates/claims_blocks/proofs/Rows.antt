@@ -53,11 +53,11 @@ pub leads-length : (l : Lead) (n : ℕ) → length (leads l n) ≡ leadWidth l
 leads-length Bare n = refl
 leads-length (Control c) n = refl
 
-before-F : (n : ℕ) → digit n ≡ true → within 0 14 n ≡ true
+pub before-F : (n : ℕ) → digit n ≡ true → within 0 14 n ≡ true
 before-F n h = let k = inside-high 0 9 n h in inside 0 14 n (omega arith) (omega arith)
 
 -- what leads, or the first F, counts the digits
-counts : (l : Lead) (ds rest : List ℕ) → every digit ds ≡ true → Ends l rest → counted l (leads l (length ds) ++ ds ++ rest) ≡ done (length ds)
+pub counts : (l : Lead) (ds rest : List ℕ) → every digit ds ≡ true → Ends l rest → counted l (leads l (length ds) ++ ds ++ rest) ≡ done (length ds)
 counts Bare ds rest h e =
     let stop : within 0 14 (getD rest 0 0) ≡ false = over 0 14 (getD rest 0 0) (omega arith) in
     rw (run-is (within 0 14) ds rest (every-wider digit (within 0 14) before-F ds h) stop, h)
@@ -75,7 +75,7 @@ shown-reads l k ns ds h s =
     rw (count, inside 4 12 n (p .0) (p .1), digits, behind, p .2, s .fill)
 
 -- what leads is what is written there
-leading-is : (l : Lead) (ns : List ℕ) (n : ℕ) → 2 ≤ length ns → counted l ns ≡ done n → take (leadWidth l) ns ≡ leads l n
+pub leading-is : (l : Lead) (ns : List ℕ) (n : ℕ) → 2 ≤ length ns → counted l ns ≡ done n → take (leadWidth l) ns ≡ leads l n
 leading-is Bare ns n h e = refl
 leading-is (Control c) [] n h e = absurd (omega arith)
 leading-is (Control c) (a ∷ []) n h e = absurd (omega arith)
@@ -84,7 +84,7 @@ leading-is (Control c) (a ∷ b ∷ ns) n h e =
     ap₂ (λ (x y : ℕ). x ∷ y ∷ []) (eqb-true a c (t .0)) (t .1)
 
 -- what fails the test is over it
-past : (high n : ℕ) → within 0 high n ≡ false → high < n
+pub past : (high n : ℕ) → within 0 high n ≡ false → high < n
 past high n h = leb-false n high (rw (leb·zero n) at h)
 
 -- an F stands behind the digits
@@ -124,14 +124,20 @@ reads-shown l k ns ds h r =
     let c = then-done (counted l ns) (λ n. andThen (pinLength n) (contentsAs l k ns)) ds r in
     shown l k ns ds (c .0) h (c .1) (c .2)
 
--- a row is refused for its contents only
-count-faults : (l : Lead) (ns : List ℕ) → Only Fault (counted l ns)
-count-faults Bare ns = test-only Fault Block20 (inl refl) (every digit (beforeF ns)) (length (beforeF ns))
-count-faults (Control c) ns = test-only Fault Block20 (inl refl) (eqb (getD ns 0 0) c) (getD ns 1 0)
+-- a row that says no length is 20
+pub count-20 : (l : Lead) (ns : List ℕ) → Only (λ q. q ≡ Block20) (counted l ns)
+count-20 Bare ns = test-only (λ q. q ≡ Block20) Block20 refl (every digit (beforeF ns)) (length (beforeF ns))
+count-20 (Control c) ns = test-only (λ q. q ≡ Block20) Block20 refl (eqb (getD ns 0 0) c) (getD ns 1 0)
 
+-- and so is one whose digits or fill are wrong
+pub contents-20 : (l : Lead) (k : Fill) (ns : List ℕ) (n : ℕ) → Only (λ q. q ≡ Block20) (contentsAs l k ns n)
+contents-20 l k ns n =
+    let w = leadWidth l in
+    test-only (λ q. q ≡ Block20) Block20 refl (every digit (slice w (w + n) ns) && every (fits k) (slice (w + n) 16 ns)) (slice w (w + n) ns)
+
+-- a row is refused for its contents only
 pub reads-faults : (l : Lead) (k : Fill) (ns : List ℕ) → Only Fault (readAs l k ns)
 reads-faults l k ns =
-    let w = leadWidth l in
-    then-only Fault (counted l ns) (λ n. andThen (pinLength n) (contentsAs l k ns)) (count-faults l ns)
+    then-only Fault (counted l ns) (λ n. andThen (pinLength n) (contentsAs l k ns)) (λ q e. inl (count-20 l ns q e))
     (λ n. then-only Fault (pinLength n) (contentsAs l k ns) (test-only Fault Length24 (inr refl) (within 4 12 n) n)
-    (λ m. test-only Fault Block20 (inl refl) (every digit (slice w (w + m) ns) && every (fits k) (slice (w + m) 16 ns)) (slice w (w + m) ns)))
+    (λ m q e. inl (contents-20 l k ns m q e)))

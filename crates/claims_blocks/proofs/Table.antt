@@ -14,7 +14,6 @@ use Rattle.formats.specs.declared.Format.{Format}
 use Rattle.formats.specs.declared.Format.the-variants.{F01, F03, F05, F34, F35, F47}
 use Rattle.formats.specs.declared.Fill.{Fill}
 use Rattle.formats.specs.declared.Fill.the-variants.{F, AToF, Any}
-use Rattle.claims_blocks.specs.Claims.{Carries, CarriesFive}
 use Rattle.claims_blocks.proofs.Rows.{Ends}
 
 -- a fill nibble that is written is read as one
@@ -36,17 +35,14 @@ fill-ends F34 (n ∷ ns) h = tt
 fill-ends F35 (n ∷ ns) h = tt
 fill-ends F47 (n ∷ ns) h = tt
 
-pub carries-five : CarriesFive
-carries-five = (tt, tt, tt, tt, tt, λ c. c)
-
--- where the length is carried, fill is written as it is read
-pub same-fill : (f : Format) → Carries f → fillWritten f ≡ fillRead f
-same-fill F01 c = refl
-same-fill F03 c = absurd c
-same-fill F05 c = refl
-same-fill F34 c = refl
-same-fill F35 c = refl
-same-fill F47 c = refl
+-- fill is written as it is read
+pub same-fill : (f : Format) → fillWritten f ≡ fillRead f
+same-fill F01 = refl
+same-fill F03 = refl
+same-fill F05 = refl
+same-fill F34 = refl
+same-fill F35 = refl
+same-fill F47 = refl
 
 -- a nibble of the fill that is written as this fill nibble
 abbrev pub unfilled : Fill → ℕ → ℕ

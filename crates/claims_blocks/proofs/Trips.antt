@@ -1,12 +1,11 @@
 -- What is written shows its PIN; what shows a PIN is written by it.
 -- Assumes nothing.
-use Prim.Native.Nat.{ℕ, suc, _+_}
+use Prim.Native.Nat.{ℕ, _+_}
 use native.Mathlib.Omega.{arith}
 use mathlib.Core.Path.{_≡_, refl, sym, ap, _∙_}
-use mathlib.Core.List.{List, [], _∷_, _++_, map}
+use mathlib.Core.List.{List, map}
 use mathlib.Core.Bool.{Bool, true, false}
-use lib.ListN.{length, getD, take, drop, length-append, length-drop, length-map, take-append-drop}
-use lib.Seq.{take-append-add, take-append-seam, take-take, getD-take, getD-drop, getD-append-add}
+use lib.ListN.{length, drop, length-append, length-drop, length-map}
 use Rattle.nibbles.specs.Nibbles.{within}
 use Rattle.nibbles.proofs.Rows.{xors-twice}
 use Rattle.numbers.specs.Numbers.{done}
@@ -14,9 +13,7 @@ use Rattle.formats.specs.Formats.{leadOf, fillRead, fillWritten, veiled, leads,
 use Rattle.blocks.specs.Blocks.{veil, clearRow, contents, readRow, writeRow}
 use Rattle.blocks.proofs.Laws.{lead-short}
 use Rattle.formats.specs.declared.Format.{Format}
-use Rattle.formats.specs.declared.Lead.the-variants.{Bare}
-use Rattle.formats.specs.declared.Fill.the-variants.{Any}
-use Rattle.claims_blocks.specs.Claims.{IsPin, IsRow, Carries, RoundTrip, RefusedExactly, AcceptedIn03}
+use Rattle.claims_blocks.specs.Claims.{IsPin, IsRow, RoundTrip, RefusedExactly}
 use Rattle.claims_blocks.proofs.Judged.{Only, Fault, not-done, not-refused}
 use Rattle.claims_blocks.proofs.Lists.{behind-is, every-drop, every-map, drop-map, xors-length, xors-nibbles}
 use Rattle.claims_blocks.proofs.Table.{fill-agrees, fill-ends, same-fill, unfilled, unfilled-nibble, refilled}
@@ -76,14 +73,14 @@ fill-row f clear r =
     (length-map clear (unfilled (fillRead f)) ∙ r .0, every-map (within 0 15) (within 0 15) (unfilled (fillRead f)) (unfilled-nibble (fillRead f)) clear (r .1))
 
 -- a row that shows a PIN is written by it
-shown-writes : (f : Format) (ns ds : List ℕ) → Carries f → Shows (leadOf f) (fillRead f) ns ds → clearRow f ds (fillOf f ns) ≡ ns
+shown-writes : (f : Format) (ns ds : List ℕ) → Shows (leadOf f) (fillRead f) ns ds → clearRow f ds (fillOf f ns) ≡ ns
 unfolding fillOf
-shown-writes f ns ds c s =
+shown-writes f ns ds s =
     let k = fillRead f in
     let w = leadWidth (leadOf f) in
     let n = length ds in
     let behind : drop (w + n) ns ≡ s .rest = ap (drop (w + n)) (sym (s .laid)) ∙ behind-is (leads (leadOf f) n) ds (s .rest) w n (leads-length (leadOf f) n) refl in
-    rw (same-fill f c, drop-map (unfilled k) (w + n) ns, behind, refilled k (s .rest) (s .fill)) (s .laid)
+    rw (same-fill f, drop-map (unfilled k) (w + n) ns, behind, refilled k (s .rest) (s .fill)) (s .laid)
 
 -- a block is refused for its contents only
 pub read-faults : (f : Format) (with ns : List ℕ) → Only Fault (readRow f with ns)
@@ -91,49 +88,19 @@ unfolding readRow contents
 read-faults f with ns = reads-faults (leadOf f) (fillRead f) (veil (veiled f) with ns)
 
 -- a block that is accepted is written by the PIN that was read, with the fill taken from the clear block
-pub accepted-written : (f : Format) (with ns ds : List ℕ) → Carries f → IsRow with → IsRow ns → readRow f with ns ≡ done ds
+pub accepted-written : (f : Format) (with ns ds : List ℕ) → IsRow with → IsRow ns → readRow f with ns ≡ done ds
     → IsPin ds × (writeRow f with ds (fillOf f (veil (veiled f) with ns)) ≡ ns)
 unfolding readRow writeRow contents
-accepted-written f with ns ds c w r e =
+accepted-written f with ns ds w r e =
     let clear = veil (veiled f) with ns in
     let s = reads-shown (leadOf f) (fillRead f) clear ds (veil-row (veiled f) with ns w r .0) e in
-    (s .pin, ap (veil (veiled f) with) (shown-writes f clear ds c s) ∙ veil-twice (veiled f) with ns (omega arith))
+    (s .pin, ap (veil (veiled f) with) (shown-writes f clear ds s) ∙ veil-twice (veiled f) with ns (omega arith))
 
 pub refused-exactly : RefusedExactly
-refused-exactly f c with ns w r = (
+refused-exactly f with ns w r = (
   λ h ds fill p q e. not-refused (readRow f with ns) ds h (ap (readRow f with) (sym e) ∙ round-trip f with ds fill w p q),
   λ h. not-done (readRow f with ns) (read-faults f with ns) (λ ds e.
       let clear = veil (veiled f) with ns in
-      let a = accepted-written f with ns ds c w r e in
+      let a = accepted-written f with ns ds w r e in
       h ds (fillOf f clear) (a .0) (fill-row f clear (veil-row (veiled f) with ns w r)) (a .1)),
-)
-
--- ---- format 03
-
-first-is : (ns : List ℕ) (n : ℕ) → getD ns 0 0 ≡ suc n → take 1 ns ≡ suc n ∷ []
-first-is [] n h = absurd (omega arith)
-first-is (m ∷ ns) n h = ap (λ (x : ℕ). x ∷ []) h
-
--- a row that begins with a PIN and an F shows the PIN
-begun-shows : (ns ds : List ℕ) → IsRow ns → IsPin ds → take (length ds + 1) ns ≡ ds ++ (15 ∷ []) → Shows Bare Any ns ds
-begun-shows ns ds r p h =
-    let n = length ds in
-    let front : take n ns ≡ ds = sym (take-take n (n + 1) ns (omega arith)) ∙ ap (take n) h ∙ take-append-seam ds (15 ∷ []) in
-    record {
-      pin = p;
-      rest = drop n ns;
-      laid = ap (λ (xs : List ℕ). xs ++ drop n ns) (sym front) ∙ take-append-drop n ns;
-      fill = every-drop (within 0 15) n ns (r .1);
-      ends =
-          getD-drop n ns 0 0 ∙ sym (getD-take (n + 1) ns (n + 0) 0 (omega arith)) ∙ ap (λ (xs : List ℕ). getD xs (n + 0) 0) h
-          ∙ getD-append-add ds (15 ∷ []) 0 0;
-    }
-
-pub accepted-in-03 : AcceptedIn03
-unfolding readRow contents
-accepted-in-03 with ns ds r = (
-  λ h.
-      let s = reads-shown Bare Any ns ds (r .0) h in
-      (s .pin, ap (take (length ds + 1)) (sym (s .laid)) ∙ take-append-add ds (s .rest) 1 ∙ ap (λ (xs : List ℕ). ds ++ xs) (first-is (s .rest) 14 (s .ends))),
-  λ h. shown-reads Bare Any ns ds (omega arith) (begun-shows ns ds r (h .0) (h .1)),
 )

@@ -1,20 +1,19 @@
 -- What is claimed of PIN blocks, each once over the format.
-use Prim.Native.Nat.{ℕ, _+_, _≤_}
+use Prim.Native.Nat.{ℕ, _≤_}
 use mathlib.Core.Path.{_≡_}
 use mathlib.Core.Logic.{_↔_, _⊎_}
 use mathlib.Core.List.{List, [], _∷_, _++_}
-use mathlib.Core.Bool.{Bool, true}
+use mathlib.Core.Bool.{Bool, true, false}
 use lib.ListN.{length, take}
 use Rattle.nibbles.specs.Nibbles.{nibs, within, every}
 use Rattle.numbers.specs.Numbers.{Outcome, done, refused}
 use Rattle.numbers.specs.declared.Refusal.the-variants.{Block20, Length24}
-use Rattle.formats.specs.Formats.{leadOf}
+use Rattle.formats.specs.Formats.{leadOf, veiled}
 use Rattle.codes.specs.Codes.{codeOf}
-use Rattle.pins.specs.Pins.{accountOf}
-use Rattle.blocks.specs.Blocks.{readRow, writeRow}
+use Rattle.pins.specs.Pins.{accountOf, accountField}
+use Rattle.blocks.specs.Blocks.{veil, readRow, writeRow}
 use Rattle.blockcalls.specs.BlockCalls.{readBlock, writeBlock}
 use Rattle.formats.specs.declared.Format.{Format}
-use Rattle.formats.specs.declared.Format.the-variants.{F01, F03, F05, F34, F35, F47}
 use Rattle.formats.specs.declared.Lead.{Lead}
 use Rattle.formats.specs.declared.Lead.the-variants.{Bare, Control}
 use Rattle.codes.specs.declared.Code.the-variants.{Built}
@@ -37,31 +36,34 @@ IsBytes bs = every (within 0 255) bs ≡ true
 abbrev pub ForContents : Outcome (List ℕ) → Type 0
 ForContents o = (o ≡ refused Block20) ⊎ (o ≡ refused Length24)
 
--- a lead that says the PIN's length
-abbrev pub Headed : Lead → Type 0
-Headed Bare = ⊥
-Headed (Control c) = Unit {0}
-
--- a format whose block carries the PIN's length
-abbrev pub Carries : Format → Type 0
-Carries f = Headed (leadOf f)
-
--- those are five of the six, every one but 03
-abbrev pub CarriesFive : Type 0
-CarriesFive = Carries F01 × Carries F05 × Carries F34 × Carries F35 × Carries F47 × (Carries F03 → ⊥)
-
 -- what is written reads back, whatever the format, the veil, the PIN and the fill
 abbrev pub RoundTrip : Type 0
 RoundTrip = (f : Format) (with ds fill : List ℕ) → IsRow with → IsPin ds → IsRow fill → readRow f with (writeRow f with ds fill) ≡ done ds
 
--- a block is refused for its contents exactly where no PIN, under any fill, writes it, in a format that carries the length
+-- a block is refused for its contents exactly where no PIN, under any fill, writes it
 abbrev pub RefusedExactly : Type 0
-RefusedExactly = (f : Format) → Carries f → (with ns : List ℕ) → IsRow with → IsRow ns
+RefusedExactly = (f : Format) (with ns : List ℕ) → IsRow with → IsRow ns
     → ForContents (readRow f with ns) ↔ ((ds fill : List ℕ) → IsPin ds → IsRow fill → writeRow f with ds fill ≡ ns → ⊥)
 
--- in format 03, a PIN is read exactly where the block begins with it and an F
-abbrev pub AcceptedIn03 : Type 0
-AcceptedIn03 = (with ns ds : List ℕ) → IsRow ns → (readRow F03 with ns ≡ done ds) ↔ (IsPin ds × (take (length ds + 1) ns ≡ ds ++ (15 ∷ [])))
+-- these nibbles are the whole block, or stand before an F of it
+abbrev pub UpToF : List ℕ → List ℕ → Type 0
+UpToF ns ds = (ns ≡ ds) ⊎ ((rest : List ℕ) × (ns ≡ ds ++ (15 ∷ rest)))
+
+-- the length that a clear block says its PIN has: N, behind the format's C; or, where nothing leads, how many digits there are up to the
+-- first F or the end. It says none where C is another, or where nothing leads and a letter stands before the first F
+abbrev pub SaysLength : Lead → List ℕ → ℕ → Type 0
+SaysLength (Control c) ns n = take 2 ns ≡ c ∷ n ∷ []
+SaysLength Bare ns n = (digits : List ℕ) × (every (within 0 9) digits ≡ true) × (length digits ≡ n) × UpToF ns digits
+
+-- it says one outside 4 to 12
+abbrev pub SaysWrongLength : Lead → List ℕ → Type 0
+SaysWrongLength lead ns = (n : ℕ) × SaysLength lead ns n × (within 4 12 n ≡ false)
+
+-- a block is refused with 24 exactly where it says such a length, whatever is wrong behind that; so every other that is refused is 20, where
+-- it says no length, or where it says one of 4 to 12 and a digit or the fill is wrong
+abbrev pub LengthExactly : Type 0
+LengthExactly = (f : Format) (with ns : List ℕ) → IsRow with → IsRow ns
+    → (readRow f with ns ≡ refused Length24) ↔ SaysWrongLength (leadOf f) (veil (veiled f) with ns)
 
 -- the calls: every PIN is written, in every built format, for every account, under every fill, as eight bytes that are read as it
 abbrev pub Written : Type 0
@@ -82,15 +84,16 @@ ReadOrRefused = (code : ℕ) (f : Format) → codeOf code ≡ Built f
 
 -- the calls: a block is refused for its contents exactly where no PIN, under any fill, writes it
 abbrev pub BlockRefusedExactly : Type 0
-BlockRefusedExactly = (code : ℕ) (f : Format) → codeOf code ≡ Built f → Carries f
+BlockRefusedExactly = (code : ℕ) (f : Format) → codeOf code ≡ Built f
     → (block account digits : List ℕ) (room : ℕ) → length block ≡ 8 → IsBytes block → accountOf account ≡ done digits → 12 ≤ room
     → ForContents (readBlock code block account room)
     ↔ ((pin fill : List ℕ) → IsPin pin → length fill ≡ 8 → IsBytes fill → (room′ : ℕ) → 8 ≤ room′ → writeBlock code pin account fill room′ ≡ done block → ⊥)
 
--- the calls: in format 03, a PIN is read exactly where the block begins with it and an F
-abbrev pub BlockAcceptedIn03 : Type 0
-BlockAcceptedIn03 = (block account digits ds : List ℕ) (room : ℕ) → length block ≡ 8 → IsBytes block → accountOf account ≡ done digits → 12 ≤ room
-    → (readBlock 3 block account room ≡ done ds) ↔ (IsPin ds × (take (length ds + 1) (nibs block) ≡ ds ++ (15 ∷ [])))
+-- the calls: it is refused with 24 exactly where it says a length outside 4 to 12
+abbrev pub BlockLengthExactly : Type 0
+BlockLengthExactly = (code : ℕ) (f : Format) → codeOf code ≡ Built f
+    → (block account digits : List ℕ) (room : ℕ) → length block ≡ 8 → IsBytes block → accountOf account ≡ done digits → 12 ≤ room
+    → (readBlock code block account room ≡ refused Length24) ↔ SaysWrongLength (leadOf f) (veil (veiled f) (accountField digits) (nibs block))
 
 -- the calls: a translation that is permitted gives the very block that writing the PIN gives, and so keeps the PIN
 abbrev pub TranslationKeeps : Type 0

@@ -15,19 +15,18 @@ use Rattle.alphabet.proofs.Laws.{value-below}
 use Rattle.numbers.specs.Numbers.{Outcome, done, refused, andThen, numberOf}
 use Rattle.numbers.specs.declared.Refusal.{Refusal}
 use Rattle.formats.specs.declared.Format.{Format}
-use Rattle.formats.specs.declared.Format.the-variants.{F01, F03, F05, F34, F35, F47}
 use Rattle.pins.specs.Pins.{accountField}
 use Rattle.blocks.specs.Blocks.{veil, readRow}
 use Rattle.formats.specs.Formats.{veiled}
 use Rattle.offsets.specs.Offsets.{pinWithNatural}
 use Rattle.texts_stages.specs.StageTexts.{SealedFields, InputFields, AreInputs}
-use Rattle.claims_blocks.specs.Claims.{IsRow, IsBytes, Carries}
+use Rattle.claims_blocks.specs.Claims.{IsRow, IsBytes}
 use Rattle.claims_blocks.specs.Promises.{listed}
 use Rattle.claims_blocks.proofs.Bytes.{is-row, nibs-row}
 use Rattle.claims_blocks.proofs.Judged as judged
-use Rattle.claims_blocks.proofs.Trips.{veil-row, fillOf, fill-row, round-trip, accepted-written, accepted-in-03, read-faults}
+use Rattle.claims_blocks.proofs.Trips.{veil-row, fillOf, fill-row, round-trip, accepted-written, read-faults}
 use Rattle.claims_exactly.specs.Sent.{response}
-use Rattle.claims_exactly.specs.Responses.{accountDigits, pairOf, Writes, Holds}
+use Rattle.claims_exactly.specs.Responses.{accountDigits, pairOf, Holds}
 
 -- the account field is a row of nibbles
 field-row : (account : List ℕ) → length account ≡ 12 → IsRow (accountField (map valueOf account))
@@ -35,30 +34,14 @@ field-row account l = is-row _ (record { long = omega (arith, length-map account
 
 module _ (account block : List ℕ) (row : IsRow (accountField account)) (nibbles : IsRow (nibs block)) where
   -- it is read, and what is read writes it
-  writes-read : (f : Format) → Writes f account block → (pin : List ℕ) × (readRow f (accountField account) (nibs block) ≡ done pin)
-  writes-read f (pin, fill, is-pin, is-fill, e) = (pin, ap (readRow f (accountField account)) (sym e) ∙ round-trip f (accountField account) pin fill row is-pin is-fill)
-
-  read-writes : (f : Format) → Carries f → (pin : List ℕ) → readRow f (accountField account) (nibs block) ≡ done pin → Writes f account block
-  read-writes f c pin e =
-      let clear = veil (veiled f) (accountField account) (nibs block) in
-      let a = accepted-written f (accountField account) (nibs block) pin c row nibbles e in
-      (pin, fillOf f clear, a .0, fill-row f clear (veil-row (veiled f) (accountField account) (nibs block) row nibbles), a .1)
-
   holds-read : (f : Format) → Holds f account block → (pin : List ℕ) × (readRow f (accountField account) (nibs block) ≡ done pin)
-  holds-read F01 h = writes-read F01 h
-  holds-read F03 (pin, is-pin, e) = (pin, accepted-in-03 (accountField account) (nibs block) pin nibbles .1 (is-pin, e))
-  holds-read F05 h = writes-read F05 h
-  holds-read F34 h = writes-read F34 h
-  holds-read F35 h = writes-read F35 h
-  holds-read F47 h = writes-read F47 h
+  holds-read f (pin, fill, is-pin, is-fill, e) = (pin, ap (readRow f (accountField account)) (sym e) ∙ round-trip f (accountField account) pin fill row is-pin is-fill)
 
   read-holds : (f : Format) (pin : List ℕ) → readRow f (accountField account) (nibs block) ≡ done pin → Holds f account block
-  read-holds F01 pin e = read-writes F01 tt pin e
-  read-holds F03 pin e = let h = accepted-in-03 (accountField account) (nibs block) pin nibbles .0 e in (pin, h .0, h .1)
-  read-holds F05 pin e = read-writes F05 tt pin e
-  read-holds F34 pin e = read-writes F34 tt pin e
-  read-holds F35 pin e = read-writes F35 tt pin e
-  read-holds F47 pin e = read-writes F47 tt pin e
+  read-holds f pin e =
+      let clear = veil (veiled f) (accountField account) (nibs block) in
+      let a = accepted-written f (accountField account) (nibs block) pin row nibbles e in
+      (pin, fillOf f clear, a .0, fill-row f clear (veil-row (veiled f) (accountField account) (nibs block) row nibbles), a .1)
 
 -- ---- behind the PIN
 

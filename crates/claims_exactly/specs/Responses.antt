@@ -1,11 +1,11 @@
 -- What the two calls say to the bytes that a host sends, where they are a command of the paper's and where they are not, with at least
 -- the paper's 8 and 65 bytes of room. What is said exactly is said of any reply that keeps the call's promise.
-use Prim.Native.Nat.{ℕ, _+_, _≤_}
+use Prim.Native.Nat.{ℕ, _≤_}
 use mathlib.Core.Path.{_≡_}
 use mathlib.Core.Logic.{_↔_, _⊎_, inl, inr}
 use mathlib.Core.List.{List, [], _∷_, _++_, map}
 use mathlib.Core.Bool.{Bool, true, not}
-use lib.ListN.{length, take}
+use lib.ListN.{length}
 use lib.Dec.{eqb}
 use Rattle.nibbles.specs.Nibbles.{nibs, packs, same}
 use Rattle.alphabet.specs.Alphabet.{valueOf}
@@ -15,9 +15,6 @@ use Rattle.numbers.specs.declared.Refusal.the-variants.{Unverified01, Check81, 
 use Rattle.numbers.specs.declared.Reply.{Reply}
 use Rattle.settings.specs.declared.Settings.{Settings}
 use Rattle.formats.specs.declared.Format.{Format}
-use Rattle.formats.specs.Formats.{leadOf}
-use Rattle.formats.specs.declared.Lead.{Lead}
-use Rattle.formats.specs.declared.Lead.the-variants.{Bare, Control}
 use Rattle.pins.specs.Pins.{accountField}
 use Rattle.blocks.specs.Blocks.{writeRow}
 use Rattle.ibm3624.specs.Ibm3624.{covers, offsetOf}
@@ -124,17 +121,9 @@ VerifyAnswersParts = (w : Verifying) (settings : Settings) (block enciphered : L
     → 65 ≤ room → IsHeader (settings .header) header → IsVerify (pinKeyRuleOf w) p
     → answered settings true true (verifySent w header p) block enciphered room ≡ verdictTo w header p (verdictOf (settings .variable) p block enciphered)
 
--- some PIN of 4 to 12 digits writes the block, under some fill and the account
-abbrev pub Writes : Format → List ℕ → List ℕ → Type 0
-Writes f account block = (pin : List ℕ) × (fill : List ℕ) × IsPin pin × IsRow fill × (writeRow f (accountField account) pin fill ≡ nibs block)
-
--- the block holds a PIN: one writes it. Where nothing leads, and "later nibbles are not looked at", it begins with the PIN and an F
-abbrev pub HoldsBehind : Lead → Format → List ℕ → List ℕ → Type 0
-HoldsBehind (Control c) f account block = Writes f account block
-HoldsBehind Bare f account block = (pin : List ℕ) × IsPin pin × (take (length pin + 1) (nibs block) ≡ pin ++ (15 ∷ []))
-
+-- the block holds a PIN: some PIN of 4 to 12 digits writes it, under some fill and the account
 abbrev pub Holds : Format → List ℕ → List ℕ → Type 0
-Holds f account block = HoldsBehind (leadOf f) f account block
+Holds f account block = (pin : List ℕ) × (fill : List ℕ) × IsPin pin × IsRow fill × (writeRow f (accountField account) pin fill ≡ nibs block)
 
 -- so with what a command of the paper's says of it
 abbrev pub HoldsFor : (settings : Settings) (s : List ℕ) → OneOfThePapers settings s → List ℕ → Type 0

@@ -19,10 +19,10 @@ leadOf F34 = Control 2
 leadOf F35 = Control 2
 leadOf F47 = Control 3
 
--- the column fill, as it is read. Of 03 "later nibbles are not looked at"
+-- the column fill, as it is read. Of 03: "After the first F every nibble must be F"
 abbrev pub fillRead : Format → Fill
 fillRead F01 = F
-fillRead F03 = Any
+fillRead F03 = F
 fillRead F05 = Any
 fillRead F34 = F
 fillRead F35 = F

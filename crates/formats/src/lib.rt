@@ -43,7 +43,7 @@ impl Format {
     {
         match self {
             Format::F01 => Fill::F,
-            Format::F03 => Fill::Any,
+            Format::F03 => Fill::F,
             Format::F05 => Fill::Any,
             Format::F34 => Fill::F,
             Format::F35 => Fill::F,
