@@ -1,6 +1,7 @@
 /*
  * Blocks: each printed block is written and read back, and translated into
- * every other that is printed for its PIN and account.
+ * every other that is printed for its PIN and account. Those that the paper or
+ * the second request of document 02 has refused are read and translated.
  */
 #include <stdio.h>
 #include <string.h>
@@ -16,7 +17,7 @@ struct vector {
 	const char *block;
 };
 
-/* A block that a paper has refused. */
+/* A block that a paper or a request has refused. */
 struct refused {
 	const char *source;
 	uint32_t format;
@@ -54,6 +55,14 @@ static const struct refused refusals[] = {
 	{ "paper P7, thirteen digits", 34, "2D1234567890123F", 24 },
 	{ "paper P7, thirteen and no digits", 34, "2D00000000000000", 24 },
 	{ "paper P8", 34, "24123AFFFFFFFFFF", 20 },
+	{ "request 2, the instructor's block", INSTRUCTORS_FORMAT, instructors_block, 20 },
+	{ "request 2, the last nibble alone is no F", 3, "1234FFFFFFFFFFFE", 20 },
+	{ "request 2, one of three nibbles behind twelve digits and F", 3, "123456789012F0FF", 20 },
+	{ "paper, format 03: a letter before the first F", 3, "1AFFFFFFFFFFFFFF", 20 },
+	{ "request 2, a letter before it and rubbish behind", 3, "1AF9900000000000", 20 },
+	{ "request 2, three digits and rubbish behind the F", 3, "123F990000000000", 24 },
+	{ "request 2, thirteen digits and rubbish behind the F", 3, "1234567890123F99", 24 },
+	{ "paper, format 03: sixteen digits", 3, "1234567890123456", 24 },
 };
 
 static const uint8_t zero_fill[BLOCK];
@@ -93,6 +102,18 @@ static void refuse_vector(const struct refused *r)
 	hold_refused("read", r->source, reply, out, r->number);
 }
 
+/* A translation reads as the reading call does. */
+static void refuse_translation(const struct refused *r)
+{
+	uint8_t block[BLOCK], out[LENT];
+
+	block_of(r->block, block);
+	untouched(out);
+	qg_reply reply = qg_translate(usual, r->format, PAPER_FORMAT, block, BLOCK,
+		characters(paper_account), ACCOUNT, zero_fill, BLOCK, out, LENT);
+	hold_refused("translated", r->source, reply, out, r->number);
+}
+
 /* Two printed blocks of one PIN and one account are translations of each
  * other. */
 static void translate_vector(const struct vector *from, const struct vector *to)
@@ -124,6 +145,8 @@ void block_vectors(void)
 		read_vector(&vectors[i]);
 		translate_to_all(&vectors[i]);
 	}
-	for (size_t i = 0; i < sizeof refusals / sizeof refusals[0]; i++)
+	for (size_t i = 0; i < sizeof refusals / sizeof refusals[0]; i++) {
 		refuse_vector(&refusals[i]);
+		refuse_translation(&refusals[i]);
+	}
 }

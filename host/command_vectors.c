@@ -1,9 +1,9 @@
 /*
  * The commands: the exchange that the paper runs, through both calls, and
  * exchanges that differ from it in a place or two, each beside the sentence
- * that settles it: the paper's, that of the request which brought DA and EA, or
- * what docs/DECISIONS.md says of them. PIN and account are those of the paper's
- * figures, unless said.
+ * that settles it: the paper's, that of the request which brought DA and EA, of
+ * the one on format 03, which is request 2, or what docs/DECISIONS.md says of
+ * them. PIN and account are those of the paper's figures, unless said.
  */
 #include <string.h>
 
@@ -140,6 +140,11 @@ static const struct exchange exchanges[] = {
 		69, 69, TEXT("HDR1BL69") },
 	{ "paper, format: 01 restricted", RESTRICTED, GOOD, TEXT(COMMAND),
 		0, 0, TEXT("HDR1BL009247FFFFFFFF") },
+
+	{ "request 2, BK: the instructor's block", USUAL, GOOD_WITH(instructors_block),
+		TEXT(WITH_FORMAT("03")), 0, 20, TEXT("HDR1BL20") },
+	{ "request 2, BK: 20 comes before 81", USUAL, GOOD_WITH(instructors_block),
+		TEXT(COMMAND_OF("BK", HEX_KEYS, "03", "05", PAPER_TABLE)), 0, 20, TEXT("HDR1BL20") },
 
 	{ "paper, table: a letter", USUAL, GOOD, TEXT(WITH_TABLE("012345678901234A")),
 		25, 25, TEXT("HDR1BL25") },
@@ -322,6 +327,11 @@ static const struct exchange verifications[] = {
 		0, 11, TEXT("HDR1EB11") },
 	{ "paper, block: 20 comes before 81", USUAL, GOOD_WITH(any_fill_block),
 		TEXT(VERIFY("DA", "12", PAPER_OFFSET)), 0, 20, TEXT("HDR1DB20") },
+	{ "request 2, DA: the instructor's block", USUAL, GOOD_WITH(instructors_block),
+		TEXT(VERIFY_FORMAT("03")), 0, 20, TEXT("HDR1DB20") },
+	{ "request 2, EA: the instructor's block", USUAL, GOOD_WITH(instructors_block),
+		TEXT(VERIFICATION_OF("EA", TWO_KEYS, "12", "03", "04", PAPER_TABLE, "2702FFFFFFFF")),
+		0, 20, TEXT("HDR1EB20") },
 };
 
 /* The asking call in an output of which so many bytes are lent. */

@@ -206,6 +206,25 @@ static void of_enciphered(const char *hex)
 	}
 }
 
+/* Of PIN 1234 the offset would be 2702. */
+static void refuse_instructors(const char *hex)
+{
+	uint8_t block[BLOCK], enciphered[BLOCK], out[LENT];
+	const char *source = "request 2, the instructor's block";
+
+	block_of(instructors_block, block);
+	block_of(hex, enciphered);
+	untouched(out);
+	qg_reply made = qg_offset(usual, INSTRUCTORS_FORMAT, 4, block, BLOCK,
+		characters(paper_account), ACCOUNT, characters(table), TABLE,
+		enciphered, BLOCK, out, LENT);
+	hold_refused("offset", source, made, out, 20);
+	qg_reply judged = qg_offset_verdict(usual, INSTRUCTORS_FORMAT, 4, block, BLOCK,
+		characters(paper_account), ACCOUNT, characters(table), TABLE,
+		enciphered, BLOCK, characters("2702FFFFFFFF"), OFFSET);
+	hold_verdict("verdict", source, judged, 20);
+}
+
 void offset_vectors(void)
 {
 	for (size_t i = 0; i < COUNT(validations); i++)
@@ -216,4 +235,5 @@ void offset_vectors(void)
 		offset_of_handed(&digits_handed[i]);
 		differences_of_handed(&digits_handed[i]);
 	}
+	refuse_instructors(enciphered_blocks[0]);
 }

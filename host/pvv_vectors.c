@@ -94,6 +94,22 @@ static void refuse_presented(void)
 		verdict_on(enciphered, characters("0A53")), 15);
 }
 
+static void refuse_instructors(const struct printed *p)
+{
+	uint8_t block[BLOCK], enciphered[BLOCK], out[LENT];
+	const char *source = "request 2, the instructor's block";
+
+	block_of(instructors_block, block);
+	block_of(p->enciphered, enciphered);
+	untouched(out);
+	qg_reply made = qg_pvv_input(INSTRUCTORS_FORMAT, KEY_INDEX, block, BLOCK,
+		characters(paper_account), ACCOUNT, out, LENT);
+	hold_refused("PVV input", source, made, out, 20);
+	qg_reply judged = qg_pvv_verdict(INSTRUCTORS_FORMAT, KEY_INDEX, block, BLOCK,
+		characters(paper_account), ACCOUNT, enciphered, BLOCK, characters(p->pvv), PVV);
+	hold_verdict("verdict on a PVV", source, judged, 20);
+}
+
 void pvv_vectors(void)
 {
 	make_input();
@@ -101,4 +117,5 @@ void pvv_vectors(void)
 	for (size_t i = 0; i < sizeof printed / sizeof printed[0]; i++)
 		make_pvv(&printed[i]);
 	refuse_presented();
+	refuse_instructors(&printed[0]);
 }

@@ -1,7 +1,7 @@
 /*
- * vectors: the printed examples of the papers, each beside the name of the
- * place that prints it, and what must follow from them, played through the C
- * face. The last line is 'vectors: N passed, M failed'.
+ * vectors: the printed examples of the papers and of the requests, each beside
+ * the name of the place that prints it, and what must follow from them, played
+ * through the C face. The last line is 'vectors: N passed, M failed'.
  */
 #include "vectors.h"
 
@@ -11,6 +11,7 @@
 const qg_settings usual = { .header = 4, .restricted = 0, .variable = 0 };
 const char paper_account[] = "400000123456";
 const char paper_block[] = "0534167FFFEDCBA9";
+const char instructors_block[] = "1234FF9900000000";
 
 static unsigned passed, failed;
 

@@ -29,6 +29,11 @@ extern const char paper_account[];
 extern const char paper_block[];
 #define PAPER_FORMAT 1
 
+/* The block that an instructor sent, says request 2: PIN 1234 in format 03,
+ * with rubbish behind the first F. */
+extern const char instructors_block[];
+#define INSTRUCTORS_FORMAT 3
+
 /* A block from its sixteen hex characters. */
 void block_of(const char *hex, uint8_t *block);
 

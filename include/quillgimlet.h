@@ -451,11 +451,13 @@ qg_reply qg_answer(qg_settings settings,
  *    00   the PIN is in out
  *
  * Format 03 has no control and no length. Its PIN ends before the first F, or
- * at the end of the block where there is none, and the nibbles behind that F
- * are not looked at. Its block is judged so:
+ * at the end of the block where there is none. Its block is judged so:
  *
  *    20   a nibble before the first F is A to E
  *    24   the count of digits is not 4 to 12
+ *    20   a nibble behind the first F is not F
+ *
+ * So 12 34 FF 99 00 00 00 00 is 20, and 12 3F 99 00 00 00 00 00 is 24.
  *
  * On 00 it writes the PIN's digits as values 0 to 9, one to a byte, and
  * `written` is the PIN's length. All later bytes of out keep their values,
