@@ -18,7 +18,7 @@ use Rattle.nibbles.proofs.Runs.{leading-take, inside-high, every-leading, run-w
 use Rattle.numbers.specs.Numbers.{done, refused, andThen}
 use Rattle.numbers.specs.declared.Refusal.{Refusal}
 use Rattle.numbers.specs.declared.Refusal.the-variants.{Block20, Length24}
-use Rattle.formats.specs.Formats.{leadOf, leadWidth, leads, filled, fillRead, fillWritten, leastFill, fits, veiled}
+use Rattle.formats.specs.Formats.{leadOf, leadWidth, leads, filled, fillOf, leastFill, fits, veiled}
 use Rattle.formats.specs.declared.Format.{Format}
 use Rattle.formats.specs.declared.Format.the-variants.{F01, F03, F05, F34, F35, F47}
 use Rattle.formats.specs.declared.Lead.{Lead}
@@ -79,26 +79,26 @@ module _ (f : Format) (w n from : ℕ) (here : from ≡ leadWidth (leadOf f)) (s
 
   pub wrong-fill :
       from + n ≤ from + length (leading digit (slice from (from + n) (row 16 w)))
-      → from + n + length (leading (fits (fillRead f)) (slice (from + n) 16 (row 16 w))) < 16
+      → from + n + length (leading (fits (fillOf f)) (slice (from + n) 16 (row 16 w))) < 16
       → contents f (row 16 w) n ≡ refused Block20
   unfolding contents
   wrong-fill h k =
       rw (
         ← here,
         run-whole digit (row 16 w) from (from + n) (omega arith) (rw (row-length 16 w) digits-end) h,
-        run-broken (fits (fillRead f)) (row 16 w) (from + n) 16 digits-end (rw (row-length 16 w) (lit≤ tt)) k,
+        run-broken (fits (fillOf f)) (row 16 w) (from + n) 16 digits-end (rw (row-length 16 w) (lit≤ tt)) k,
       )
 
   pub right-contents :
       from + n ≤ from + length (leading digit (slice from (from + n) (row 16 w)))
-      → 16 ≤ from + n + length (leading (fits (fillRead f)) (slice (from + n) 16 (row 16 w)))
+      → 16 ≤ from + n + length (leading (fits (fillOf f)) (slice (from + n) 16 (row 16 w)))
       → contents f (row 16 w) n ≡ done (slice from (from + n) (row 16 w))
   unfolding contents
   right-contents h k =
       rw (
         ← here,
         run-whole digit (row 16 w) from (from + n) (omega arith) (rw (row-length 16 w) digits-end) h,
-        run-whole (fits (fillRead f)) (row 16 w) (from + n) 16 digits-end (rw (row-length 16 w) (lit≤ tt)) k,
+        run-whole (fits (fillOf f)) (row 16 w) (from + n) 16 digits-end (rw (row-length 16 w) (lit≤ tt)) k,
       )
 
 -- ---- the fill, place by place
@@ -184,7 +184,7 @@ module _ (f : Format) (p : Pin) (proper : Proper p) (fill from : ℕ) (here : fr
   headRow = leads (leadOf f) (p .length) ++ digitsOf p
 
   abbrev pub tailRow : List ℕ
-  tailRow = map (filled (fillWritten f)) (drop from (row 16 fill))
+  tailRow = map (filled (fillOf f)) (drop from (row 16 fill))
 
   pub from-small : from ≤ 14
   from-small = let s = lead-short (leadOf f) in omega (arith, proper .short)
@@ -199,11 +199,11 @@ module _ (f : Format) (p : Pin) (proper : Proper p) (fill from : ℕ) (here : fr
 
   pub tail-length : length tailRow ≡ 16 - from
   tail-length =
-      length-map (drop from (row 16 fill)) (filled (fillWritten f)) ∙ length-drop from (row 16 fill)
+      length-map (drop from (row 16 fill)) (filled (fillOf f)) ∙ length-drop from (row 16 fill)
       ∙ ap (λ (n : ℕ). n - from) (row-length 16 fill)
 
   pub tail-below : Below 16 tailRow
-  tail-below = filled-each (fillWritten f) (drop from (row 16 fill)) (below-drop 16 from (row 16 fill) (row-below 16 fill))
+  tail-below = filled-each (fillOf f) (drop from (row 16 fill)) (below-drop 16 from (row 16 fill) (row-below 16 fill))
 
   pub head-under : word headRow < 16 ^ from
   head-under = subst (λ (n : ℕ). word headRow < 16 ^ n) head-length (word-lt headRow head-below)
@@ -219,7 +219,7 @@ module _ (f : Format) (p : Pin) (proper : Proper p) (fill from : ℕ) (here : fr
       ap (row 16) (sym (word-append headRow tailRow ∙ ap (λ (n : ℕ). word tailRow * 16 ^ n + word headRow) head-length))
       ∙ ap (λ (n : ℕ). row n (word (headRow ++ tailRow))) (sym whole)
       ∙ row-word (headRow ++ tailRow) (below-append 16 headRow tailRow head-below tail-below)
-      ∙ ap₂ (λ (n k : ℕ). leads (leadOf f) n ++ digitsOf p ++ map (filled (fillWritten f)) (drop k (row 16 fill)))
+      ∙ ap₂ (λ (n k : ℕ). leads (leadOf f) n ++ digitsOf p ++ map (filled (fillOf f)) (drop k (row 16 fill)))
       (sym (row-length (p .length) (p .digits)))
       (here ∙ ap (λ (n : ℕ). leadWidth (leadOf f) + n) (sym (row-length (p .length) (p .digits))))
 
@@ -244,7 +244,7 @@ read-pinned f with ns ds h k e =
     let u = then-done (pinLength (t .0)) (contents f clear) ds (t .2) in
     let n = passed Length24 (within 4 12 (t .0)) (t .0) (u .0) (u .1) in
     let part = slice from (from + u .0) clear in
-    let p = passed Block20 (every digit part && every (fits (fillRead f)) (slice (from + u .0) 16 clear)) part ds (u .2) in
+    let p = passed Block20 (every digit part && every (fits (fillOf f)) (slice (from + u .0) 16 clear)) part ds (u .2) in
     let small : u .0 ≤ 12 = rw (n .1) at (inside-high 4 12 (t .0) (n .0)) in
     let s = lead-short (leadOf f) in
     let long : length ds ≡ u .0 = ap length (sym (p .1)) ∙ length-slice from (from + u .0) clear (rw (veil-length (veiled f) with ns h k) (omega arith)) ∙ omega arith in
@@ -266,17 +266,17 @@ pub written-row : (f : Format) (with ds fill : List ℕ) → Sixteen with → Pi
 unfolding writeRow
 written-row f with ds fill w p s =
     let from = leadWidth (leadOf f) + length ds in
-    let rest = map (filled (fillWritten f)) (drop from fill) in
+    let rest = map (filled (fillOf f)) (drop from fill) in
     let front = leads (leadOf f) (length ds) ++ ds in
     let head : length front ≡ from = length-append (leads (leadOf f) (length ds)) ds ∙ ap (λ (n : ℕ). n + length ds) (leads-length (leadOf f) (length ds)) in
-    let tail : length rest ≡ 16 - from = length-map (drop from fill) (filled (fillWritten f)) ∙ length-drop from fill ∙ ap (λ (n : ℕ). n - from) (s .long) in
+    let tail : length rest ≡ 16 - from = length-map (drop from fill) (filled (fillOf f)) ∙ length-drop from fill ∙ ap (λ (n : ℕ). n - from) (s .long) in
     let short = lead-short (leadOf f) in
     let whole : length (clearRow f ds fill) ≡ 16 = length-append front rest ∙ omega (arith, p .short) in
     record {
       long = veil-length (veiled f) with (clearRow f ds fill) (w .long) whole;
       nibbles = veil-below (veiled f) with (clearRow f ds fill) (w .nibbles)
           (below-append 16 front rest (below-append 16 (leads (leadOf f) (length ds)) ds (leads-below f (length ds) (omega (arith, p .short))) (below-weaken 10 16 ds (lit≤ tt) (p .digits)))
-          (filled-each (fillWritten f) (drop from fill) (below-drop 16 from fill (s .nibbles))));
+          (filled-each (fillOf f) (drop from fill) (below-drop 16 from fill (s .nibbles))));
     }
 
 -- a PIN that was judged is proper

@@ -9,7 +9,7 @@ use lib.Dec.{eqb}
 use Rattle.nibbles.specs.Nibbles.{xors, within, every, leading}
 use Rattle.numbers.specs.Numbers.{Outcome, andThen, unless}
 use Rattle.numbers.specs.declared.Refusal.the-variants.{Block20}
-use Rattle.formats.specs.Formats.{leadOf, fillRead, fillWritten, veiled, leads, leadWidth, fits, filled}
+use Rattle.formats.specs.Formats.{leadOf, fillOf, veiled, leads, leadWidth, fits, filled}
 use Rattle.pins.specs.Pins.{digit, pinLength}
 use Rattle.formats.specs.declared.Format.{Format}
 use Rattle.formats.specs.declared.Lead.{Lead}
@@ -30,11 +30,12 @@ abbrev pub counted : Lead → List ℕ → Outcome ℕ
 counted Bare ns = unless Block20 (every digit (beforeF ns)) (length (beforeF ns))
 counted (Control c) ns = unless Block20 (eqb (getD ns 0 0) c) (getD ns 1 0)
 
--- "then digits and fill (20)": n digits behind the lead, and fill to the end
+-- "then digits and fill (20)": n digits behind the lead, and fill to the end. So of 03, by §2 of document 02, "20 for a non-F nibble behind
+-- the first F, judged after 24"
 unfoldable pub contents : Format → List ℕ → ℕ → Outcome (List ℕ)
 contents f ns n =
     let from = leadWidth (leadOf f) in
-    unless Block20 (every digit (slice from (from + n) ns) && every (fits (fillRead f)) (slice (from + n) 16 ns))
+    unless Block20 (every digit (slice from (from + n) ns) && every (fits (fillOf f)) (slice (from + n) 16 ns))
     (slice from (from + n) ns)
 
 -- "Reading judges C (20), N (24), then digits and fill (20)"
@@ -47,7 +48,7 @@ readRow f with ns =
 abbrev pub clearRow : Format → List ℕ → List ℕ → List ℕ
 clearRow f ds fill =
     let n = length ds in
-    leads (leadOf f) n ++ ds ++ map (filled (fillWritten f)) (drop (leadWidth (leadOf f) + n) fill)
+    leads (leadOf f) n ++ ds ++ map (filled (fillOf f)) (drop (leadWidth (leadOf f) + n) fill)
 
 -- writing
 unfoldable pub writeRow : Format → List ℕ → List ℕ → List ℕ → List ℕ

@@ -81,7 +81,7 @@ fn digits(f: Format, clear: u64, n: usize) -> Reading
     if nibbles::run_end(clear, from, to, 0, 9) < to {
         return Reading::Bad(Refusal::Block20);
     }
-    if fill_end(clear, to, f.fill_read().least()) < 16 {
+    if fill_end(clear, to, f.fill().least()) < 16 {
         return Reading::Bad(Refusal::Block20);
     }
     Reading::Got(Pin {
@@ -138,10 +138,6 @@ pub fn write(f: Format, with: u64, pin: Pin, fill: u64) -> u64
 {
     let lead = f.lead();
     let from = lead.width() + pin.length;
-    let clear = nibbles::join(
-        head(lead, pin),
-        from,
-        fill_from(f.fill_written(), fill, from),
-    );
+    let clear = nibbles::join(head(lead, pin), from, fill_from(f.fill(), fill, from));
     under_veil(f, with, clear)
 }

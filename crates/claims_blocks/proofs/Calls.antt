@@ -29,7 +29,7 @@ use Rattle.translation.specs.Translation.{translateBlock}
 use Rattle.claims_blocks.specs.Claims.{IsPin, IsBytes, Written, WrittenReads, ReadOrRefused, BlockRefusedExactly, BlockLengthExactly, TranslationKeeps}
 use Rattle.claims_blocks.proofs.Judged.{judged, Only, Fault, decided, not-done, not-refused}
 use Rattle.claims_blocks.proofs.Bytes.{sixteen, is-row, nibs-row, packs-bytes, pinned-pin, is-pin, pin-handed, handed-pin}
-use Rattle.claims_blocks.proofs.Trips.{veil-row, round-trip, fillOf, fill-row, accepted-written, read-faults}
+use Rattle.claims_blocks.proofs.Trips.{veil-row, round-trip, fillAgain, fill-row, accepted-written, read-faults}
 use Rattle.claims_blocks.proofs.Lengths.{length-exactly}
 
 -- a format that is built and an account that is one
@@ -80,7 +80,7 @@ module _ (code : ℕ) (account : List ℕ) (h : Handed code account) where
       let w = is-row (field h) (field-sixteen account (h .digits) (h .known)) in
       let q = nibs-row block s b in
       let clear = veil (veiled f) (field h) (nibs block) in
-      let fill = fillOf f clear in
+      let fill = fillAgain f clear in
       let row = sixteen fill (fill-row f clear (veil-row (veiled f) (field h) (nibs block) w q)) in
       let a = accepted-written f (field h) (nibs block) pin w q (sym (reading block room s r) ∙ e) in (
         packs fill,

@@ -14,7 +14,7 @@ use Rattle.nibbles.proofs.Runs.{inside-high}
 use Rattle.numbers.specs.Numbers.{Outcome, done, refused, andThen, unless}
 use Rattle.numbers.specs.declared.Refusal.the-variants.{Block20, Length24}
 use Rattle.numbers.proofs.Laws.{passed}
-use Rattle.formats.specs.Formats.{fillRead, leadOf, veiled}
+use Rattle.formats.specs.Formats.{fillOf, leadOf, veiled}
 use Rattle.pins.specs.Pins.{digit, pinLength}
 use Rattle.blocks.specs.Blocks.{veil, beforeF, counted, contents, readRow}
 use Rattle.formats.specs.declared.Lead.{Lead}
@@ -74,4 +74,4 @@ pub length-exactly : LengthExactly
 unfolding readRow contents
 length-exactly f with ns w r =
     let clear = veil (veiled f) with ns in
-    (said (leadOf f) (fillRead f) clear (veil-row (veiled f) with ns w r), wrong (leadOf f) (fillRead f) clear)
+    (said (leadOf f) (fillOf f) clear (veil-row (veiled f) with ns w r), wrong (leadOf f) (fillOf f) clear)

@@ -9,7 +9,7 @@ use lib.ListN.{length}
 use Rattle.nibbles.specs.Nibbles.{within, every}
 use Rattle.nibbles.proofs.Lists.{and-left, and-right}
 use Rattle.nibbles.proofs.Runs.{inside, inside-high, inside-low}
-use Rattle.formats.specs.Formats.{leadOf, fillRead, fillWritten, fits, filled}
+use Rattle.formats.specs.Formats.{leadOf, fillOf, fits, filled}
 use Rattle.formats.specs.declared.Format.{Format}
 use Rattle.formats.specs.declared.Format.the-variants.{F01, F03, F05, F34, F35, F47}
 use Rattle.formats.specs.declared.Fill.{Fill}
@@ -17,16 +17,13 @@ use Rattle.formats.specs.declared.Fill.the-variants.{F, AToF, Any}
 use Rattle.claims_blocks.proofs.Rows.{Ends}
 
 -- a fill nibble that is written is read as one
-pub fill-agrees : (f : Format) (n : ℕ) → within 0 15 n ≡ true → fits (fillRead f) (filled (fillWritten f) n) ≡ true
-fill-agrees F01 n h = refl
-fill-agrees F03 n h = refl
-fill-agrees F05 n h = h
-fill-agrees F34 n h = refl
-fill-agrees F35 n h = refl
-fill-agrees F47 n h = inside 10 15 (10 + n % 6) (omega arith) (omega arith)
+pub filled-fits : (k : Fill) (n : ℕ) → within 0 15 n ≡ true → fits k (filled k n) ≡ true
+filled-fits F n h = refl
+filled-fits AToF n h = inside 10 15 (10 + n % 6) (omega arith) (omega arith)
+filled-fits Any n h = h
 
 -- where nothing leads, F is written behind the digits
-pub fill-ends : (f : Format) (ns : List ℕ) → 0 < length ns → Ends (leadOf f) (map (filled (fillWritten f)) ns)
+pub fill-ends : (f : Format) (ns : List ℕ) → 0 < length ns → Ends (leadOf f) (map (filled (fillOf f)) ns)
 fill-ends f [] h = absurd (omega arith)
 fill-ends F01 (n ∷ ns) h = tt
 fill-ends F03 (n ∷ ns) h = refl
@@ -34,15 +31,6 @@ fill-ends F05 (n ∷ ns) h = tt
 fill-ends F34 (n ∷ ns) h = tt
 fill-ends F35 (n ∷ ns) h = tt
 fill-ends F47 (n ∷ ns) h = tt
-
--- fill is written as it is read
-pub same-fill : (f : Format) → fillWritten f ≡ fillRead f
-same-fill F01 = refl
-same-fill F03 = refl
-same-fill F05 = refl
-same-fill F34 = refl
-same-fill F35 = refl
-same-fill F47 = refl
 
 -- a nibble of the fill that is written as this fill nibble
 abbrev pub unfilled : Fill → ℕ → ℕ

@@ -9,14 +9,14 @@ use lib.ListN.{length, drop, length-append, length-drop, length-map}
 use Rattle.nibbles.specs.Nibbles.{within}
 use Rattle.nibbles.proofs.Rows.{xors-twice}
 use Rattle.numbers.specs.Numbers.{done}
-use Rattle.formats.specs.Formats.{leadOf, fillRead, fillWritten, veiled, leads, leadWidth, fits, filled}
+use Rattle.formats.specs.Formats.{leadOf, fillOf, veiled, leads, leadWidth, fits, filled}
 use Rattle.blocks.specs.Blocks.{veil, clearRow, contents, readRow, writeRow}
 use Rattle.blocks.proofs.Laws.{lead-short}
 use Rattle.formats.specs.declared.Format.{Format}
 use Rattle.claims_blocks.specs.Claims.{IsPin, IsRow, RoundTrip, RefusedExactly}
 use Rattle.claims_blocks.proofs.Judged.{Only, Fault, not-done, not-refused}
 use Rattle.claims_blocks.proofs.Lists.{behind-is, every-drop, every-map, drop-map, xors-length, xors-nibbles}
-use Rattle.claims_blocks.proofs.Table.{fill-agrees, fill-ends, same-fill, unfilled, unfilled-nibble, refilled}
+use Rattle.claims_blocks.proofs.Table.{filled-fits, fill-ends, unfilled, unfilled-nibble, refilled}
 use Rattle.claims_blocks.proofs.Rows.{Shows, readAs, leads-length, shown-reads, reads-shown, reads-faults}
 
 -- ---- the veil
@@ -40,14 +40,14 @@ module _ (f : Format) (ds fill : List ℕ) (p : IsPin ds) (r : IsRow fill) where
   used-length : leadWidth (leadOf f) + length ds + length (used f ds fill) ≡ 16
   used-length = rw (length-drop (leadWidth (leadOf f) + length ds) fill) (omega (arith, lead-short (leadOf f)))
 
-  written-shows : Shows (leadOf f) (fillRead f) (clearRow f ds fill) ds
+  written-shows : Shows (leadOf f) (fillOf f) (clearRow f ds fill) ds
   written-shows =
       let nibbles = every-drop (within 0 15) (leadWidth (leadOf f) + length ds) fill (r .1) in
       record {
         pin = p;
-        rest = map (filled (fillWritten f)) (used f ds fill);
+        rest = map (filled (fillOf f)) (used f ds fill);
         laid = refl;
-        fill = every-map (within 0 15) (fits (fillRead f)) (filled (fillWritten f)) (fill-agrees f) (used f ds fill) nibbles;
+        fill = every-map (within 0 15) (fits (fillOf f)) (filled (fillOf f)) (filled-fits (fillOf f)) (used f ds fill) nibbles;
         ends = fill-ends f (used f ds fill) (omega (arith, used-length, lead-short (leadOf f)));
       }
 
@@ -58,42 +58,42 @@ pub round-trip : RoundTrip
 unfolding readRow writeRow contents
 round-trip f with ds fill w p r =
     let whole = clear-length f ds fill p r in
-    ap (readAs (leadOf f) (fillRead f)) (veil-twice (veiled f) with (clearRow f ds fill) (omega arith))
-    ∙ shown-reads (leadOf f) (fillRead f) (clearRow f ds fill) ds (omega arith) (written-shows f ds fill p r)
+    ap (readAs (leadOf f) (fillOf f)) (veil-twice (veiled f) with (clearRow f ds fill) (omega arith))
+    ∙ shown-reads (leadOf f) (fillOf f) (clearRow f ds fill) ds (omega arith) (written-shows f ds fill p r)
 
 -- ---- and back
 
 -- the fill that writes a clear row again
-pub fillOf : Format → List ℕ → List ℕ
-fillOf f clear = map (unfilled (fillRead f)) clear
+pub fillAgain : Format → List ℕ → List ℕ
+fillAgain f clear = map (unfilled (fillOf f)) clear
 
-pub fill-row : (f : Format) (clear : List ℕ) → IsRow clear → IsRow (fillOf f clear)
-unfolding fillOf
+pub fill-row : (f : Format) (clear : List ℕ) → IsRow clear → IsRow (fillAgain f clear)
+unfolding fillAgain
 fill-row f clear r =
-    (length-map clear (unfilled (fillRead f)) ∙ r .0, every-map (within 0 15) (within 0 15) (unfilled (fillRead f)) (unfilled-nibble (fillRead f)) clear (r .1))
+    (length-map clear (unfilled (fillOf f)) ∙ r .0, every-map (within 0 15) (within 0 15) (unfilled (fillOf f)) (unfilled-nibble (fillOf f)) clear (r .1))
 
 -- a row that shows a PIN is written by it
-shown-writes : (f : Format) (ns ds : List ℕ) → Shows (leadOf f) (fillRead f) ns ds → clearRow f ds (fillOf f ns) ≡ ns
-unfolding fillOf
+shown-writes : (f : Format) (ns ds : List ℕ) → Shows (leadOf f) (fillOf f) ns ds → clearRow f ds (fillAgain f ns) ≡ ns
+unfolding fillAgain
 shown-writes f ns ds s =
-    let k = fillRead f in
+    let k = fillOf f in
     let w = leadWidth (leadOf f) in
     let n = length ds in
     let behind : drop (w + n) ns ≡ s .rest = ap (drop (w + n)) (sym (s .laid)) ∙ behind-is (leads (leadOf f) n) ds (s .rest) w n (leads-length (leadOf f) n) refl in
-    rw (same-fill f, drop-map (unfilled k) (w + n) ns, behind, refilled k (s .rest) (s .fill)) (s .laid)
+    rw (drop-map (unfilled k) (w + n) ns, behind, refilled k (s .rest) (s .fill)) (s .laid)
 
 -- a block is refused for its contents only
 pub read-faults : (f : Format) (with ns : List ℕ) → Only Fault (readRow f with ns)
 unfolding readRow contents
-read-faults f with ns = reads-faults (leadOf f) (fillRead f) (veil (veiled f) with ns)
+read-faults f with ns = reads-faults (leadOf f) (fillOf f) (veil (veiled f) with ns)
 
 -- a block that is accepted is written by the PIN that was read, with the fill taken from the clear block
 pub accepted-written : (f : Format) (with ns ds : List ℕ) → IsRow with → IsRow ns → readRow f with ns ≡ done ds
-    → IsPin ds × (writeRow f with ds (fillOf f (veil (veiled f) with ns)) ≡ ns)
+    → IsPin ds × (writeRow f with ds (fillAgain f (veil (veiled f) with ns)) ≡ ns)
 unfolding readRow writeRow contents
 accepted-written f with ns ds w r e =
     let clear = veil (veiled f) with ns in
-    let s = reads-shown (leadOf f) (fillRead f) clear ds (veil-row (veiled f) with ns w r .0) e in
+    let s = reads-shown (leadOf f) (fillOf f) clear ds (veil-row (veiled f) with ns w r .0) e in
     (s .pin, ap (veil (veiled f) with) (shown-writes f clear ds s) ∙ veil-twice (veiled f) with ns (omega arith))
 
 pub refused-exactly : RefusedExactly
@@ -102,5 +102,5 @@ refused-exactly f with ns w r = (
   λ h. not-done (readRow f with ns) (read-faults f with ns) (λ ds e.
       let clear = veil (veiled f) with ns in
       let a = accepted-written f with ns ds w r e in
-      h ds (fillOf f clear) (a .0) (fill-row f clear (veil-row (veiled f) with ns w r)) (a .1)),
+      h ds (fillAgain f clear) (a .0) (fill-row f clear (veil-row (veiled f) with ns w r)) (a .1)),
 )

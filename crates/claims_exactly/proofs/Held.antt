@@ -24,7 +24,7 @@ use Rattle.claims_blocks.specs.Claims.{IsRow, IsBytes}
 use Rattle.claims_blocks.specs.Promises.{listed}
 use Rattle.claims_blocks.proofs.Bytes.{is-row, nibs-row}
 use Rattle.claims_blocks.proofs.Judged as judged
-use Rattle.claims_blocks.proofs.Trips.{veil-row, fillOf, fill-row, round-trip, accepted-written, read-faults}
+use Rattle.claims_blocks.proofs.Trips.{veil-row, fillAgain, fill-row, round-trip, accepted-written, read-faults}
 use Rattle.claims_exactly.specs.Sent.{response}
 use Rattle.claims_exactly.specs.Responses.{accountDigits, pairOf, Holds}
 
@@ -41,7 +41,7 @@ module _ (account block : List ℕ) (row : IsRow (accountField account)) (nibble
   read-holds f pin e =
       let clear = veil (veiled f) (accountField account) (nibs block) in
       let a = accepted-written f (accountField account) (nibs block) pin row nibbles e in
-      (pin, fillOf f clear, a .0, fill-row f clear (veil-row (veiled f) (accountField account) (nibs block) row nibbles), a .1)
+      (pin, fillAgain f clear, a .0, fill-row f clear (veil-row (veiled f) (accountField account) (nibs block) row nibbles), a .1)
 
 -- ---- behind the PIN
 

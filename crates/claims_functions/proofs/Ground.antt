@@ -50,8 +50,7 @@ settings-once = record {
 pub formats-once : FormatsSettled
 formats-once = record {
   Format·lead = λ κs a r r′ ends ends′. settled;
-  Format·fill-read = λ κs a r r′ ends ends′. settled;
-  Format·fill-written = λ κs a r r′ ends ends′. settled;
+  Format·fill = λ κs a r r′ ends ends′. settled;
   Format·veiled = λ κs a r r′ ends ends′. settled;
   Format·is-01-or-47 = λ κs a r r′ ends ends′. settled;
   Lead·width = λ κs a r r′ ends ends′. settled;

@@ -54,8 +54,7 @@ pub record SettingsSettled : Type 0 where
 -- every public function of formats
 pub record FormatsSettled : Type 0 where
   pub Format·lead : Settled Formats.Format.lead.ended Formats.Format.lead.Reads.Learnt
-  pub Format·fill-read : Settled Formats.Format.fill_read.ended Formats.Format.fill_read.Reads.Learnt
-  pub Format·fill-written : Settled Formats.Format.fill_written.ended Formats.Format.fill_written.Reads.Learnt
+  pub Format·fill : Settled Formats.Format.fill.ended Formats.Format.fill.Reads.Learnt
   pub Format·veiled : Settled Formats.Format.veiled.ended Formats.Format.veiled.Reads.Learnt
   pub Format·is-01-or-47 : Settled Formats.Format.is_01_or_47.ended Formats.Format.is_01_or_47.Reads.Learnt
   pub Lead·width : Settled Formats.Lead.width.ended Formats.Lead.width.Reads.Learnt

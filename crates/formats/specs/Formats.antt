@@ -19,23 +19,14 @@ leadOf F34 = Control 2
 leadOf F35 = Control 2
 leadOf F47 = Control 3
 
--- the column fill, as it is read. Of 03: "After the first F every nibble must be F"
-abbrev pub fillRead : Format → Fill
-fillRead F01 = F
-fillRead F03 = F
-fillRead F05 = Any
-fillRead F34 = F
-fillRead F35 = F
-fillRead F47 = AToF
-
--- the column fill, as it is written. Of 03: "digits, then F"
-abbrev pub fillWritten : Format → Fill
-fillWritten F01 = F
-fillWritten F03 = F
-fillWritten F05 = Any
-fillWritten F34 = F
-fillWritten F35 = F
-fillWritten F47 = AToF
+-- the column fill, written and read. Of 03: "digits, then F", and by §2 of document 02 "After the first F every nibble must be F"
+abbrev pub fillOf : Format → Fill
+fillOf F01 = F
+fillOf F03 = F
+fillOf F05 = Any
+fillOf F34 = F
+fillOf F35 = F
+fillOf F47 = AToF
 
 -- the column XOR with account field
 abbrev pub veiled : Format → Bool

@@ -1,6 +1,6 @@
 // The table of PIN block formats.
 ghost use mathlib.Core.Path.{_≡_};
-ghost use Rattle.formats.specs.Formats.{leadOf, fillRead, fillWritten, veiled, leadWidth, leastFill, filled, is01or47};
+ghost use Rattle.formats.specs.Formats.{leadOf, fillOf, veiled, leadWidth, leastFill, filled, is01or47};
 
 pub enum Format {
     F01,
@@ -38,21 +38,8 @@ impl Format {
         }
     }
 
-    pub fn fill_read(self) -> Fill
-        ensures { λ r. ⌜ r ≡ fillRead self ⌝ }
-    {
-        match self {
-            Format::F01 => Fill::F,
-            Format::F03 => Fill::F,
-            Format::F05 => Fill::Any,
-            Format::F34 => Fill::F,
-            Format::F35 => Fill::F,
-            Format::F47 => Fill::AToF,
-        }
-    }
-
-    pub fn fill_written(self) -> Fill
-        ensures { λ r. ⌜ r ≡ fillWritten self ⌝ }
+    pub fn fill(self) -> Fill
+        ensures { λ r. ⌜ r ≡ fillOf self ⌝ }
     {
         match self {
             Format::F01 => Fill::F,

@@ -10,7 +10,7 @@ use Rattle.nibbles.proofs.Rows.{row-length}
 use Rattle.nibbles.specs.Nibbles.{row, leading, within}
 use Rattle.pins.specs.declared.Reading.the-variants.{Got}
 use Rattle.blocks.proofs.Laws.{lead-short, least-small, digits-end, wrong-digits, wrong-fill, right-contents}
-use Rattle.formats.specs.Formats.{leadWidth, leadOf, fillRead, leastFill}
+use Rattle.formats.specs.Formats.{leadWidth, leadOf, fillOf, leastFill}
 use Rattle.blocks.proofs.digits.Statement.{statement}
 use Rattle.blocks.proofs.digits.Tie as tie
 
@@ -31,8 +31,8 @@ returns c =
     let a = c .before .before .before .before .args in
     rw (wrong-digits (a .f) (a .clear) (a .n) (c .before .before .width .result) (c .before .before .width .ensures ∙ ap leadWidth (c .before .before .before .lead .ensures)) (c .before .before .before .before .pre) (rw (c .before .run-end .ensures) at (c .if1 .taken)))
 
-fill-read-requires : tie.Need-fill-read-requires
-fill-read-requires c κs = search needs
+fill-requires : tie.Need-fill-requires
+fill-requires c κs = search needs
 
 least-requires : tie.Need-least-requires
 least-requires c κs = search needs
@@ -41,14 +41,14 @@ fill-end-requires : tie.Need-fill-end-requires
 fill-end-requires c κs =
     let entry = c .before .before .before .before .before .before in
     let lead = c .before .before .before .before .width .ensures ∙ ap leadWidth (c .before .before .before .before .before .lead .ensures) in
-    let least = c .least .ensures ∙ ap leastFill (c .before .fill-read .ensures) in
-    (omega (arith, lead-short (leadOf (entry .args .f)), lead, entry .pre), omega (arith, least, least-small (fillRead (entry .args .f))))
+    let least = c .least .ensures ∙ ap leastFill (c .before .fill .ensures) in
+    (omega (arith, lead-short (leadOf (entry .args .f)), lead, entry .pre), omega (arith, least, least-small (fillOf (entry .args .f))))
 
 returns-2 : tie.Need-returns-2
 returns-2 c =
     let a = c .before .before .before .before .before .before .before .before .args in
     let from = c .before .before .before .before .before .before .width .result in
-    let least = c .before .before .least .ensures ∙ ap leastFill (c .before .before .before .fill-read .ensures) in
+    let least = c .before .before .least .ensures ∙ ap leastFill (c .before .before .before .fill .ensures) in
     let run = c .before .fill-end .ensures ∙ ap (λ (l : ℕ). from + a .n + length (leading (within l 15) (slice (from + a .n) 16 (row 16 (a .clear))))) least in
     rw (wrong-fill (a .f) (a .clear) (a .n) from (c .before .before .before .before .before .before .width .ensures ∙ ap leadWidth (c .before .before .before .before .before .before .before .lead .ensures)) (c .before .before .before .before .before .before .before .before .pre) (rw (c .before .before .before .before .before .run-end .ensures) at (c .before .before .before .before .if1 .left)) (rw run at (c .if2 .taken)))
 
@@ -62,7 +62,7 @@ returns-3 c =
     let a = c .before .before .before .before .before .before .before .before .before .args in
     let from = c .before .before .before .before .before .before .before .width .result in
     let end = digits-end (a .f) (a .clear) (a .n) from (c .before .before .before .before .before .before .before .width .ensures ∙ ap leadWidth (c .before .before .before .before .before .before .before .before .lead .ensures)) (c .before .before .before .before .before .before .before .before .before .pre) in
-    let least = c .before .before .before .least .ensures ∙ ap leastFill (c .before .before .before .before .fill-read .ensures) in
+    let least = c .before .before .before .least .ensures ∙ ap leastFill (c .before .before .before .before .fill .ensures) in
     let run = c .before .before .fill-end .ensures ∙ ap (λ (l : ℕ). from + a .n + length (leading (within l 15) (slice (from + a .n) 16 (row 16 (a .clear))))) least in
     let long : a .n ≡ length (slice from (from + a .n) (row 16 (a .clear))) = sym (length-slice from (from + a .n) (row 16 (a .clear)) (rw (row-length 16 (a .clear)) end) ∙ omega arith) in
     rw (right-contents (a .f) (a .clear) (a .n) from (c .before .before .before .before .before .before .before .width .ensures ∙ ap leadWidth (c .before .before .before .before .before .before .before .before .lead .ensures)) (c .before .before .before .before .before .before .before .before .before .pre) (rw (c .before .before .before .before .before .before .run-end .ensures) at (c .before .before .before .before .before .if1 .left)) (rw run at (c .before .if2 .left)))
@@ -77,7 +77,7 @@ digits-spec =
     add-to
     run-end-requires
     returns
-    fill-read-requires
+    fill-requires
     least-requires
     fill-end-requires
     returns-2

@@ -28,8 +28,8 @@ add-from c = omega (arith, from-small (c .before .before .before .args .f) (c .b
 head-requires : tie.Need-head-requires
 head-requires c κs = search needs
 
-fill-written-requires : tie.Need-fill-written-requires
-fill-written-requires c κs = search needs
+fill-requires : tie.Need-fill-requires
+fill-requires c κs = search needs
 
 fill-from-requires : tie.Need-fill-from-requires
 fill-from-requires c κs = omega (arith, from-small (c .before .before .before .before .before .args .f) (c .before .before .before .before .before .args .pin) (c .before .before .before .before .before .pre) 0 _ (ap (λ (k : ℕ). k + (c .before .before .before .before .before .args .pin) .length) (c .before .before .before .width .ensures ∙ ap leadWidth (c .before .before .before .before .lead .ensures))))
@@ -39,7 +39,7 @@ join-requires c κs =
     let a = c .before .before .before .before .before .before .args in
     let from : ℕ = c .before .before .before .before .width .result + (a .pin) .length in
     let head = c .before .before .head .ensures ∙ ap (λ (l : Lead). word (leads l ((a .pin) .length) ++ digitsOf (a .pin))) (c .before .before .before .before .before .lead .ensures) in
-    let tail = c .fill-from .ensures ∙ ap (λ (k : Fill). word (map (filled k) (drop from (row 16 (a .fill))))) (c .before .fill-written .ensures) in (
+    let tail = c .fill-from .ensures ∙ ap (λ (k : Fill). word (map (filled k) (drop from (row 16 (a .fill))))) (c .before .fill .ensures) in (
       omega (arith, from-small (a .f) (a .pin) (c .before .before .before .before .before .before .pre) (a .fill) from (ap (λ (k : ℕ). k + (c .before .before .before .before .before .before .args .pin) .length) (c .before .before .before .before .width .ensures ∙ ap leadWidth (c .before .before .before .before .before .lead .ensures)))),
       subst (λ (x : ℕ). x < 16 ^ from) (sym head) (head-under (a .f) (a .pin) (c .before .before .before .before .before .before .pre) (a .fill) from (ap (λ (k : ℕ). k + (c .before .before .before .before .before .before .args .pin) .length) (c .before .before .before .before .width .ensures ∙ ap leadWidth (c .before .before .before .before .before .lead .ensures)))),
       subst (λ (x : ℕ). x < 16 ^ (16 - from)) (sym tail) (tail-under (a .f) (a .pin) (c .before .before .before .before .before .before .pre) (a .fill) from (ap (λ (k : ℕ). k + (c .before .before .before .before .before .before .args .pin) .length) (c .before .before .before .before .width .ensures ∙ ap leadWidth (c .before .before .before .before .before .lead .ensures)))),
@@ -54,7 +54,7 @@ returns c =
     let a = c .before .before .before .before .before .before .before .before .args in
     let from : ℕ = c .before .before .before .before .before .before .width .result + (a .pin) .length in
     let head = c .before .before .before .before .head .ensures ∙ ap (λ (l : Lead). word (leads l ((a .pin) .length) ++ digitsOf (a .pin))) (c .before .before .before .before .before .before .before .lead .ensures) in
-    let tail = c .before .before .fill-from .ensures ∙ ap (λ (k : Fill). word (map (filled k) (drop from (row 16 (a .fill))))) (c .before .before .before .fill-written .ensures) in
+    let tail = c .before .before .fill-from .ensures ∙ ap (λ (k : Fill). word (map (filled k) (drop from (row 16 (a .fill))))) (c .before .before .before .fill .ensures) in
     let clear = c .before .join .ensures ∙ ap₂ (λ (h t : ℕ). t * 16 ^ from + h) head tail in
     c .under-veil .ensures
     ∙ ap (λ (ns : List ℕ). word (veil (veiled (a .f)) (row 16 (a .with)) ns)) (ap (row 16) clear ∙ joined (a .f) (a .pin) (c .before .before .before .before .before .before .before .before .pre) (a .fill) from (ap (λ (k : ℕ). k + (c .before .before .before .before .before .before .before .before .args .pin) .length) (c .before .before .before .before .before .before .width .ensures ∙ ap leadWidth (c .before .before .before .before .before .before .before .lead .ensures))))
@@ -67,7 +67,7 @@ write-spec =
     width-requires
     add-from
     head-requires
-    fill-written-requires
+    fill-requires
     fill-from-requires
     join-requires
     under-veil-requires
