@@ -68,11 +68,13 @@ fn number_of(characters: &[u8]) -> Option<u64> {
     std::str::from_utf8(characters).ok()?.parse().ok()
 }
 
+/// A key block that says it is shorter than 16 characters has no place for a use and an LMK id: it
+/// does not look like one.
 fn key(rest: &mut &[u8]) -> Option<Vec<u8>> {
     let length = match rest.first()? {
         b'U' => 33,
         b'T' => 49,
-        b'S' => 1 + number_of(rest.get(2..6)?)? as usize,
+        b'S' => 1 + number_of(rest.get(2..6)?).filter(|&length| length >= 16)? as usize,
         _ => return None,
     };
     take(rest, length).map(<[u8]>::to_vec)
