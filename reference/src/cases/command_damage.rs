@@ -12,7 +12,7 @@ use crate::command::Purpose;
 /// How many kinds of damage are of use to an asking call too, and how many more are judged after
 /// the fields, by the answering call alone.
 const OF_FIELDS: usize = 26;
-const OF_KEY_BOX: usize = 13;
+const OF_KEY_BOX: usize = 16;
 
 impl Draft {
     /// One damage.

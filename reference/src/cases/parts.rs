@@ -145,17 +145,12 @@ pub fn short_out(dice: &mut Dice, call: Call) -> Option<Vec<u8>> {
     Some(dice.bytes(length))
 }
 
-/// A well-formed block; format 03 often has rubbish behind its first F.
+/// A well-formed block.
 pub fn block(dice: &mut Dice, code: u64, pin: &[u8], account: &[u8]) -> Vec<u8> {
     let format = Format::of_code(code as u32).expect("a built format");
     let pin = Pin::handed_in(pin).expect("a PIN");
     let account = Account::of_characters(account).expect("an account");
-    let mut written = block::write(format, &pin, account, dice.word());
-    if format == Format::F03 && dice.chance(60) {
-        let behind_the_f = 60 - 4 * pin.length();
-        written ^= dice.word() & ((1 << behind_the_f) - 1);
-    }
-    written.to_be_bytes().to_vec()
+    block::write(format, &pin, account, dice.word()).to_be_bytes().to_vec()
 }
 
 /// The run cut, or made longer: any length but its own.
@@ -249,29 +244,66 @@ fn damage_clear(dice: &mut Dice, clear: &mut u64) {
     }
 }
 
-/// Format 03: too few or too many digits, none but digits, letters before the first F.
+/// Counts of digits before a first F that leave it a place behind; 24 in format 03.
+const WRONG_COUNTS: &[usize] = &[0, 1, 2, 3, 3, 13, 13, 14];
+
+/// Format 03: too few or too many digits, none but digits, letters before the first F, rubbish
+/// behind it. Several of these come together too, so that the order of judging decides.
 fn damage_clear_03(dice: &mut Dice, clear: &mut u64) {
-    let end = (0..16).position(|place| block::nibble(*clear, place) == 0xF).unwrap_or(16);
-    match dice.below(8) {
-        0 | 1 => set_nibble(clear, dice.below(4), 0xF),
-        2 => set_digits(dice, clear, 16),
+    match dice.below(16) {
+        0 | 1 => put_count(dice, clear, &[0, 1, 2, 3, 3, 12, 13, 13, 14, 15, 16]),
+        2 => put_letter(dice, clear),
         3 => {
-            let count = dice.between(12, 15);
-            set_digits(dice, clear, count);
-            set_nibble(clear, count, 0xF);
-        }
-        4 => set_nibble(clear, dice.below(end.max(1)), dice.between(10, 14)),
-        5 => {
-            set_digits(dice, clear, 16);
+            put_count(dice, clear, &[16]);
             set_nibble(clear, dice.below(16), dice.between(10, 15));
         }
-        6 => set_nibble(clear, dice.below(16), dice.below(16)),
-        _ => *clear = dice.word(),
+        4 => set_nibble(clear, dice.below(16), dice.below(16)),
+        5 => *clear = dice.word(),
+        6..=9 => put_rubbish(dice, clear),
+        10..=13 => {
+            put_count(dice, clear, WRONG_COUNTS);
+            put_rubbish(dice, clear);
+        }
+        _ => {
+            put_letter(dice, clear);
+            put_rubbish(dice, clear);
+        }
     }
 }
 
-fn set_digits(dice: &mut Dice, clear: &mut u64, count: usize) {
+/// Where the first F stands; 16 where there is none.
+fn first_f(clear: u64) -> usize {
+    (0..16).position(|place| block::nibble(clear, place) == 0xF).unwrap_or(16)
+}
+
+/// As many digits as one of the counts says, drawn anew, and nothing but F behind them.
+fn put_count(dice: &mut Dice, clear: &mut u64, counts: &[usize]) {
+    let count = dice.pick(counts);
+    *clear = u64::MAX;
     for place in 0..count {
         set_nibble(clear, place, dice.below(10));
+    }
+}
+
+/// A letter A to E before the first F, in half of the cases with a wrong count besides.
+fn put_letter(dice: &mut Dice, clear: &mut u64) {
+    if dice.chance(50) {
+        put_count(dice, clear, WRONG_COUNTS);
+    }
+    let end = first_f(*clear).max(1);
+    set_nibble(clear, dice.below(end), dice.between(10, 14));
+}
+
+/// Behind the first F, if anything stands there: one nibble that is not F, or all of them drawn
+/// anew.
+fn put_rubbish(dice: &mut Dice, clear: &mut u64) {
+    let behind = first_f(*clear) + 1;
+    if behind > 15 {
+        return;
+    }
+    if dice.chance(60) {
+        set_nibble(clear, dice.between(behind, 15), dice.below(15));
+    } else {
+        (behind..16).for_each(|place| set_nibble(clear, place, dice.below(16)));
     }
 }
