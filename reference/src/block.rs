@@ -29,7 +29,7 @@ pub fn read(format: Format, block: u64, account: Account) -> Result<Pin, Refusal
     let clear = block ^ mask(format, account);
     match format.control() {
         Some(control) => read_with_length(format, control, clear),
-        None => read_until_f(clear),
+        None => read_until_f(format, clear),
     }
 }
 
@@ -40,25 +40,33 @@ fn read_with_length(format: Format, control: u8, clear: u64) -> Result<Pin, Refu
     }
     let length = pin_length(usize::from(nibble(clear, 1)))?;
     let pin = Pin::of_nibbles(clear, FIRST_DIGIT, length)?;
-    let fill = format.fill();
-    let fill_is_right =
-        (FIRST_DIGIT + length..NIBBLES).all(|place| fill.allows(nibble(clear, place)));
-    if fill_is_right {
-        Ok(pin)
-    } else {
-        Err(Refusal::BlockContent)
-    }
+    judge_fill(format, clear, FIRST_DIGIT + length)?;
+    Ok(pin)
 }
 
-/// Format 03: "Its PIN ends at the first F and later nibbles are not looked at; A to E before
-/// the first F is 20; then a count outside 4 to 12 is 24." Without an F it ends at the block's
-/// end (an open point).
-fn read_until_f(clear: u64) -> Result<Pin, Refusal> {
+/// Format 03: "Its PIN ends at the first F", "A to E before the first F is 20; then a count
+/// outside 4 to 12 is 24." Request §2 has taken the place of the paper's "later nibbles are not
+/// looked at": "After the first F every nibble must be F. [..] Refusals: 20 for a non-F nibble
+/// behind the first F, judged after 24." Without an F the PIN ends at the block's end (an open
+/// point).
+fn read_until_f(format: Format, clear: u64) -> Result<Pin, Refusal> {
     let count = (0..NIBBLES).position(|place| nibble(clear, place) == 0xF).unwrap_or(NIBBLES);
     if (0..count).any(|place| nibble(clear, place) > 9) {
         return Err(Refusal::BlockContent);
     }
-    Pin::of_nibbles(clear, 0, pin_length(count)?)
+    let pin = Pin::of_nibbles(clear, 0, pin_length(count)?)?;
+    judge_fill(format, clear, count)?;
+    Ok(pin)
+}
+
+/// From a place to the block's end there must be nothing but the format's fill, else 20.
+fn judge_fill(format: Format, clear: u64, first: usize) -> Result<(), Refusal> {
+    let fill = format.fill();
+    if (first..NIBBLES).all(|place| fill.allows(nibble(clear, place))) {
+        Ok(())
+    } else {
+        Err(Refusal::BlockContent)
+    }
 }
 
 /// The block of a PIN. Block nibble i takes fill nibble i, at the fill's own places only.

@@ -1,11 +1,11 @@
-//! A second reading of the paper `01-scope`, and of the first request of `02-change-requests`,
-//! written without sight of the product.
+//! A second reading of the paper `01-scope`, and of the first two requests of
+//! `02-change-requests`, written without sight of the product.
 //!
 //! Every call takes what the matching call of the C face takes: numbers, byte runs and lent
 //! output. It answers with a [`Reply`], and it allocates nothing.
 //!
-//! "The paper" in the comments is `01-scope`; "the open points" are the readings which the
-//! design settles where the paper leaves a choice.
+//! "The paper" in the comments is `01-scope`, as far as no request has changed it; "the open
+//! points" are the readings which the design settles where the paper leaves a choice.
 
 pub mod account;
 pub mod block;

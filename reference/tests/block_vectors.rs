@@ -2,7 +2,9 @@
 
 mod common;
 
-use common::{bytes, digits, done, refused, ACCOUNT, NO_FILL, UNTOUCHED};
+use common::{
+    bytes, digits, done, refused, ACCOUNT, CLEAN_03, NO_FILL, RUBBISH_03, SHORT_03, UNTOUCHED,
+};
 use reference::{read_block, translate, write_block, Reply, Settings};
 
 /// The block of a PIN; also that reading gives the PIN back and that the buffer's other bytes
@@ -108,18 +110,84 @@ fn fill_nibble_for_nibble() {
     assert_eq!(out[..], bytes("15 12 34 57 89 AB CD EF"));
 }
 
-/// Format 03: rubbish behind the first F is not looked at; letters before it come before the
-/// count; without an F there are sixteen digits.
+/// Request §2: "An instructor sent 12 34 FF 99 00 00 00 00 and we read PIN 1234. [..] After the
+/// first F every nibble must be F."
 #[test]
-fn format_03_ends_at_the_first_f() {
-    let mut out = [UNTOUCHED; 12];
-    assert_eq!(read_block(3, &bytes("12 34 F0 AB CD EF 01 23"), ACCOUNT, &mut out), done(4));
-    assert_eq!(out[..5], [1, 2, 3, 4, UNTOUCHED]);
-    assert_reading_refused(3, "12 3F FF FF FF FF FF FF", 24);
+fn format_03_has_nothing_but_f_behind_the_first() {
+    assert_reading_refused(3, RUBBISH_03, 20);
+    assert_both_ways(3, "1234", CLEAN_03);
+    assert_reading_refused(3, "12 34 F0 AB CD EF 01 23", 20);
+    // directly behind the F, between, in the last place
+    assert_reading_refused(3, "12 34 F0 FF FF FF FF FF", 20);
+    assert_reading_refused(3, "12 34 FE FF FF FF FF FF", 20);
+    assert_reading_refused(3, "12 34 FF FF 9F FF FF FF", 20);
+    assert_reading_refused(3, "12 34 FF FF FF FF FF F0", 20);
+    assert_reading_refused(3, "12 34 FF FF FF FF FF FE", 20);
+    assert_reading_refused(3, "12 34 5F FF FF FF FF FE", 20);
+    // behind twelve digits three places are left
+    assert_reading_refused(3, "12 34 56 78 90 12 F0 FF", 20);
+    assert_reading_refused(3, "12 34 56 78 90 12 FF EF", 20);
+    assert_reading_refused(3, "12 34 56 78 90 12 FF F0", 20);
+    assert_reading_refused(3, "12 34 56 78 90 12 FF FE", 20);
+}
+
+/// Each length that a PIN has: its block is read, and is 20 with any nibble behind the first F
+/// that is not F.
+#[test]
+fn format_03_with_each_nibble_behind_the_f() {
+    for length in 4..=12 {
+        let pin = &"123456789012"[..length];
+        let clean = format!("{pin:F<16}");
+        assert_both_ways(3, pin, &clean);
+        for (place, value) in (length + 1..16).flat_map(|place| (0..15).map(move |it| (place, it)))
+        {
+            let mut block = clean.clone();
+            block.replace_range(place..=place, &format!("{value:X}"));
+            assert_reading_refused(3, &block, 20);
+        }
+    }
+}
+
+/// "A to E before the first F is 20; then a count outside 4 to 12 is 24."
+#[test]
+fn format_03_judges_letters_before_the_count() {
     assert_reading_refused(3, "12 AF FF FF FF FF FF FF", 20);
-    assert_reading_refused(3, "12 34 56 78 90 12 3F FF", 24);
-    assert_reading_refused(3, "12 34 56 78 90 12 34 56", 24);
+    assert_reading_refused(3, "12 3E FF FF FF FF FF FF", 20);
     assert_reading_refused(3, "12 34 56 78 90 12 34 5E", 20);
+    assert_reading_refused(3, "12 3F FF FF FF FF FF FF", 24);
+    assert_reading_refused(3, "FF FF FF FF FF FF FF FF", 24);
+    assert_reading_refused(3, "12 34 56 78 90 12 3F FF", 24);
+    assert_reading_refused(3, "12 34 56 78 90 12 34 5F", 24);
+    assert_reading_refused(3, "12 34 56 78 90 12 34 56", 24);
+}
+
+/// Request §2: "20 for a non-F nibble behind the first F, judged after 24."
+#[test]
+fn format_03_judges_the_count_before_what_stands_behind_the_f() {
+    for few in ["F0 00 00 00 00 00 00 00", "1F 99 00 00 00 00 00 00", "12 F9 00 00 00 00 00 00"] {
+        assert_reading_refused(3, few, 24);
+    }
+    assert_reading_refused(3, SHORT_03, 24);
+    assert_reading_refused(3, "12 3F EF FF FF FF FF FF", 24);
+    assert_reading_refused(3, "12 3F FF FF FF FF FF F0", 24);
+    assert_reading_refused(3, "12 3F 45 67 89 01 23 45", 24);
+    assert_reading_refused(3, "12 34 56 78 90 12 3F 0F", 24);
+    assert_reading_refused(3, "12 34 56 78 90 12 3F FE", 24);
+    assert_reading_refused(3, "12 34 56 78 90 12 34 F0", 24);
+}
+
+/// A letter before the first F is 20 whatever stands behind it, and however many digits there are.
+#[test]
+fn format_03_with_letters_before_the_f_and_rubbish_behind_it() {
+    for tail in ["FF FF FF FF FF FF", "99 00 00 00 00 00", "0F FF FF FF FF FF", "FF FF FF FF FF FE"]
+    {
+        assert_reading_refused(3, &format!("1A FF {tail}"), 20);
+        assert_reading_refused(3, &format!("AF FF {tail}"), 20);
+    }
+    assert_reading_refused(3, "1E 34 FF 99 00 00 00 00", 20);
+    assert_reading_refused(3, "12 3A FF 99 00 00 00 00", 20);
+    assert_reading_refused(3, "12 34 56 78 90 1B F0 00", 20);
+    assert_reading_refused(3, "12 34 56 78 90 12 3C F0", 20);
 }
 
 #[test]
@@ -166,6 +234,25 @@ fn translation_keeps_the_pin() {
     assert_eq!((reply, block), (done(8), bytes("25 34 16 7F FF ED CB A9")));
     let (reply, block) = translated(255, 1, 47, "05 34 16 7F FF ED CB A9");
     assert_eq!((reply, block), (done(8), bytes("35 34 16 7A AA B8 9E FC")));
+    let (reply, block) = translated(0, 3, 1, CLEAN_03);
+    assert_eq!((reply, block), (done(8), bytes("04 12 74 FF FF ED CB A9")));
+}
+
+/// Rubbish behind the first F of a block of format 03 is judged after the formats, and no format
+/// takes it along.
+#[test]
+fn translation_refuses_rubbish_in_format_03() {
+    let untouched = vec![UNTOUCHED; 8];
+    for to in [1, 3, 5, 34, 35, 47] {
+        assert_eq!(translated(0, 3, to, RUBBISH_03), (refused(20), untouched.clone()));
+        assert_eq!(translated(0, 3, to, CLEAN_03).0, done(8));
+    }
+    assert_eq!(translated(0, 3, 3, CLEAN_03).1, bytes(CLEAN_03));
+    for (restricted, to, number) in [(1, 2, 23), (1, 41, 69), (1, 1, 69), (1, 3, 69)] {
+        let answer = translated(restricted, 3, to, RUBBISH_03);
+        assert_eq!(answer, (refused(number), untouched.clone()));
+    }
+    assert_eq!(translated(0, 3, 1, SHORT_03), (refused(24), untouched));
 }
 
 /// "at 23 and at 69 the reading format comes first", then the pair, then the block.

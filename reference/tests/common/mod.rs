@@ -11,6 +11,12 @@ pub const TABLE: &[u8] = b"0123456789012345";
 pub const NO_FILL: &[u8] = &[0; 8];
 pub const UNTOUCHED: u8 = 0xA5;
 
+/// The instructor's block of request §2, format 03 with rubbish behind its first F; the block of
+/// its PIN 1234 as it must be; and rubbish behind an F that comes after three digits.
+pub const RUBBISH_03: &str = "12 34 FF 99 00 00 00 00";
+pub const CLEAN_03: &str = "12 34 FF FF FF FF FF FF";
+pub const SHORT_03: &str = "12 3F 99 00 00 00 00 00";
+
 /// Hex pairs, with or without spaces between them, as bytes.
 pub fn bytes(hex: &str) -> Vec<u8> {
     let nibbles: Vec<u8> = hex
