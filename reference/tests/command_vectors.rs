@@ -3,7 +3,7 @@
 mod common;
 
 use common::command::{answered, Command, P2, P9};
-use common::{bytes, done, refused, ACCOUNT, TABLE, UNTOUCHED};
+use common::{bytes, done, refused, ACCOUNT, CLEAN_03, RUBBISH_03, SHORT_03, TABLE, UNTOUCHED};
 use reference::{answer, ask, usual, Reply, Settings};
 
 const CODE: usize = 1;
@@ -302,6 +302,31 @@ fn the_answering_calls_own_judgements() {
     assert_eq!(number([true, true], P2), 81);
     let variable = Settings { variable: true, ..usual() };
     assert_eq!(answered(variable, [true, true], &command, &bytes(P2)).0.number, 86);
+}
+
+/// PIN 1234 against P9's natural 9532: 2 7 0 2. Rubbish behind the first F of its block in format
+/// 03 is 20, with a short response: 10 and 11 come before it, 81 and 86 behind it.
+#[test]
+fn blocks_of_format_03() {
+    let weak = b";01041234\x19end";
+    let response = |parities, check: &[u8], options: &[u8], block: &str| {
+        let command = of_the_paper().with(FORMAT, b"03").with(CHECK, check).with(OPTIONS, options);
+        assert_eq!(ask(usual(), &command.bytes(), &mut [0; 8]), done(8));
+        let (reply, response) = answered(usual(), parities, &command.bytes(), &bytes(block));
+        assert_eq!(format!("{:02}", reply.number).as_bytes(), &response[6..8]);
+        String::from_utf8(response).expect("characters")
+    };
+    let good = [true, true];
+    assert_eq!(response(good, b"04", b"", CLEAN_03), "HDR1BL002702FFFFFFFF");
+    assert_eq!(response(good, b"04", b"\x19end", CLEAN_03), "HDR1BL002702FFFFFFFF\x19end");
+    assert_eq!(response(good, b"04", weak, CLEAN_03), "HDR1BL86");
+    assert_eq!(response(good, b"06", weak, CLEAN_03), "HDR1BL81");
+    for (check, options) in [(b"04", &b""[..]), (b"04", b"\x19end"), (b"04", weak), (b"06", weak)] {
+        assert_eq!(response(good, check, options, RUBBISH_03), "HDR1BL20");
+        assert_eq!(response(good, check, options, SHORT_03), "HDR1BL24");
+        assert_eq!(response([true, false], check, options, RUBBISH_03), "HDR1BL11");
+        assert_eq!(response([false, false], check, options, RUBBISH_03), "HDR1BL10");
+    }
 }
 
 /// "two slices that are not 8 bytes long (15)": either of them, before 10.

@@ -2,7 +2,10 @@
 
 mod common;
 
-use common::{bytes, digits, done, refused, ACCOUNT, NO_FILL, TABLE, UNTOUCHED};
+use common::{
+    bytes, digits, done, refused, ACCOUNT, CLEAN_03, NO_FILL, RUBBISH_03, SHORT_03, TABLE,
+    UNTOUCHED,
+};
 use reference::{
     differences, natural_pin, offset, offset_of_digits, offset_verdict, pvv, pvv_input,
     pvv_verdict, validation_block, write_block, Reply, Settings,
@@ -231,6 +234,71 @@ fn pvv_verdicts() {
     assert_eq!(verdict(0, wrong_block, b"053A"), refused(15));
     assert_eq!(verdict(0, wrong_block, b"05311"), refused(15));
     assert_eq!(verdict(0, wrong_block, b"0531"), refused(20));
+}
+
+/// PIN 1234 against P9's natural 9532: 2 7 0 2. Rubbish behind the first F of its block in format
+/// 03 is 20: 25 comes before it, 81 behind it.
+#[test]
+fn offsets_of_format_03() {
+    let made = |block: &str, check, table: &[u8]| {
+        let mut out = [b'.'; 13];
+        let (usual, block, enciphered) = (Settings::usual(), bytes(block), bytes(P9));
+        let reply = offset(usual, 3, check, &block, ACCOUNT, table, &enciphered, &mut out);
+        (reply, String::from_utf8(out.to_vec()).expect("characters"))
+    };
+    let untouched = ".".repeat(13);
+    assert_eq!(made(CLEAN_03, 4, TABLE), (done(12), "2702FFFFFFFF.".to_string()));
+    assert_eq!(made(CLEAN_03, 5, TABLE), (refused(81), untouched.clone()));
+    assert_eq!(made(RUBBISH_03, 4, TABLE), (refused(20), untouched.clone()));
+    assert_eq!(made(RUBBISH_03, 5, TABLE), (refused(20), untouched.clone()));
+    assert_eq!(made(SHORT_03, 5, TABLE), (refused(24), untouched.clone()));
+    assert_eq!(made(RUBBISH_03, 5, b"A123456789012345"), (refused(25), untouched.clone()));
+    assert_eq!(made(RUBBISH_03, 3, TABLE), (refused(15), untouched));
+}
+
+/// A malformed offset (15) and 25 come before rubbish behind the first F; 81 and the verdict
+/// itself come behind it.
+#[test]
+fn offset_verdicts_on_format_03() {
+    let verdict = |block: &str, check, table: &[u8], presented: &[u8]| {
+        let (usual, block, enciphered) = (Settings::usual(), bytes(block), bytes(P9));
+        offset_verdict(usual, 3, check, &block, ACCOUNT, table, &enciphered, presented)
+    };
+    assert_eq!(verdict(CLEAN_03, 4, TABLE, b"2702FFFFFFFF"), done(0));
+    assert_eq!(verdict(CLEAN_03, 4, TABLE, b"2703FFFFFFFF"), refused(1));
+    assert_eq!(verdict(CLEAN_03, 4, TABLE, b"27020FFFFFFF"), refused(81));
+    assert_eq!(verdict(CLEAN_03, 5, TABLE, b"27020FFFFFFF"), refused(81));
+    for (check, presented) in
+        [(4, b"2702FFFFFFFF"), (4, b"2703FFFFFFFF"), (4, b"27020FFFFFFF"), (5, b"27020FFFFFFF")]
+    {
+        assert_eq!(verdict(RUBBISH_03, check, TABLE, presented), refused(20));
+        assert_eq!(verdict(SHORT_03, check, TABLE, presented), refused(24));
+    }
+    let letters = b"A123456789012345";
+    assert_eq!(verdict(RUBBISH_03, 4, letters, b"2702FFFFFFFF"), refused(25));
+    assert_eq!(verdict(RUBBISH_03, 4, letters, b"270FFFFFFFFF"), refused(15));
+}
+
+/// The PVV's input and its verdict read the block too.
+#[test]
+fn pvvs_of_format_03() {
+    let mut out = [UNTOUCHED; 8];
+    assert_eq!(pvv_input(3, 1, &bytes(RUBBISH_03), ACCOUNT, &mut out), refused(20));
+    assert_eq!(pvv_input(3, 7, &bytes(RUBBISH_03), ACCOUNT, &mut out), refused(15));
+    assert_eq!(pvv_input(3, 1, &bytes(SHORT_03), ACCOUNT, &mut out), refused(24));
+    assert_eq!(out, [UNTOUCHED; 8]);
+    assert_eq!(pvv_input(3, 1, &bytes(CLEAN_03), ACCOUNT, &mut out), done(8));
+    assert_eq!(out[..], bytes("00 00 01 23 45 61 12 34"));
+    let enciphered = bytes("0A 5F C3 E1 7B 2D 94 88");
+    let verdict = |block: &str, presented: &[u8]| {
+        pvv_verdict(3, 1, &bytes(block), ACCOUNT, &enciphered, presented)
+    };
+    assert_eq!(verdict(CLEAN_03, b"0531"), done(0));
+    assert_eq!(verdict(CLEAN_03, b"0532"), refused(1));
+    assert_eq!(verdict(RUBBISH_03, b"0531"), refused(20));
+    assert_eq!(verdict(RUBBISH_03, b"0532"), refused(20));
+    assert_eq!(verdict(RUBBISH_03, b"053"), refused(15));
+    assert_eq!(verdict(SHORT_03, b"0531"), refused(24));
 }
 
 /// Every offset that is made is accepted by its verdict, for each length and check length.

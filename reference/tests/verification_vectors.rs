@@ -4,7 +4,7 @@
 mod common;
 
 use common::command::{answered, answered_with, Command, P2, P9};
-use common::{bytes, done, refused, ACCOUNT, TABLE, UNTOUCHED};
+use common::{bytes, done, refused, ACCOUNT, CLEAN_03, RUBBISH_03, SHORT_03, TABLE, UNTOUCHED};
 use reference::{answer, ask, usual, Reply, Settings};
 
 const HEADER: usize = 0;
@@ -471,6 +471,36 @@ fn the_answering_calls_own_judgements() {
         assert_eq!(number(b"06", [true, true], P2, P9), 81);
         assert_eq!(number(b"05", [true, true], P2, P9), 81);
         assert_eq!(number(b"04", [true, true], P2, P9), 1);
+    }
+}
+
+/// PIN 1234 against P9's natural 9532: 2 7 0 2. Rubbish behind the first F of its block in format
+/// 03 is 20, under either setting: 10 and 11 come before it, 81 and the verdict behind it.
+#[test]
+fn blocks_of_format_03() {
+    let good = [true, true];
+    for (code, response_code) in CODES {
+        let assert_answers = |number: &[u8], parities, check: &[u8], offset: &[u8], block: &str| {
+            let command = of_the_paper(code).with(FORMAT, b"03").with(CHECK, check);
+            let command = command.with(OFFSET, offset).bytes();
+            for settings in [usual(), restricted()] {
+                let (reply, response) = answered(settings, parities, &command, &bytes(block));
+                assert_eq!(response, [b"HDR1", response_code, number].concat());
+                assert_eq!(format!("{:02}", reply.number).as_bytes(), number);
+            }
+        };
+        for (number, check, offset) in [
+            (b"00", b"04", b"2702FFFFFFFF"),
+            (b"01", b"04", b"2703FFFFFFFF"),
+            (b"81", b"04", b"27020FFFFFFF"),
+            (b"81", b"05", b"27020FFFFFFF"),
+        ] {
+            assert_answers(number, good, check, offset, CLEAN_03);
+            assert_answers(b"20", good, check, offset, RUBBISH_03);
+            assert_answers(b"24", good, check, offset, SHORT_03);
+            assert_answers(b"11", [true, false], check, offset, RUBBISH_03);
+            assert_answers(b"10", [false, false], check, offset, RUBBISH_03);
+        }
     }
 }
 
