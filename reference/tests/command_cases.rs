@@ -3,6 +3,7 @@
 
 mod common;
 
+use common::format_03::Rubbish;
 use common::walk::{self, assert_holds, every, set, walked_set, with_number, Form, Seen, Weak};
 use reference::cases::case::Call;
 use reference::cases::dice::Dice;
@@ -154,6 +155,12 @@ fn formats() {
             assert_holds(&met(23), &[0, 2, 33, 99].map(|format| (restricted, variable, format)));
         }
     }
+}
+
+/// Rubbish behind the first F, with and without a fault before that F.
+#[test]
+fn blocks_of_format_03() {
+    Rubbish::in_commands(all_seen()).assert_met(100);
 }
 
 /// Check lengths on both sides of PIN lengths, with offsets of either kind.

@@ -3,6 +3,7 @@
 
 mod common;
 
+use common::format_03::Rubbish;
 use common::walk::{self, assert_holds, every, set, walked_set, with_number, Form, Seen, Walked};
 use reference::cases::case::{Call, Case};
 use reference::cases::dice::Dice;
@@ -162,6 +163,16 @@ fn formats() {
         }
         let not_built = met(69).into_iter().all(|(_, _, format)| [41, 42, 48].contains(&format));
         assert!(not_built);
+    }
+}
+
+/// Rubbish behind the first F, with and without a fault before that F; for either code.
+#[test]
+fn blocks_of_format_03() {
+    Rubbish::in_commands(all_seen()).assert_met(100);
+    for code in CODES {
+        let of_code = all_seen().iter().filter(|case| case.code() == Some(code));
+        Rubbish::in_commands(of_code).assert_met(50);
     }
 }
 
