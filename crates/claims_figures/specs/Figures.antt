@@ -52,6 +52,10 @@ unread block number = record {
 abbrev pub offsetP9 : List ℕ → ℕ → Outcome (List ℕ)
 offsetP9 tail m = offsetMade false 1 m blockP2 usualAccount tableP9 (beginningP9 ++ tail) 12
 
+-- fill bytes whose nibbles are their own places
+abbrev pub countingFill : List ℕ
+countingFill = 0x01 ∷ 0x23 ∷ 0x45 ∷ 0x67 ∷ 0x89 ∷ 0xAB ∷ 0xCD ∷ 0xEF ∷ []
+
 -- P1 to P12, over what follows the 2D of P7 and the four bytes of P9; blocks are bytes, PINs digits, offsets and PVVs characters
 abbrev pub figures : List ℕ → List ℕ → List Figure
 figures rest tail =
@@ -87,6 +91,9 @@ figures rest tail =
     ∷ gives (validationBlock validationP12 usualAccount 8) 0 (0x01 ∷ 0x23 ∷ 0x45 ∷ 0x67 ∷ 0x89 ∷ 0xA2 ∷ 0x34 ∷ 0x56 ∷ [])
     -- no input of a PVV is printed; this one follows its sentence by hand: 00000123456, index 1, 3456
     ∷ gives (pvvInput 1 1 blockP2 usualAccount 8) 0 (0x00 ∷ 0x00 ∷ 0x01 ∷ 0x23 ∷ 0x45 ∷ 0x61 ∷ 0x34 ∷ 0x56 ∷ [])
+    -- no fill but 00 is printed; these follow its sentence by hand: PIN 1234, and the fill nibbles 6 to F behind it, in 05 and in 47
+    ∷ gives (writeBlock 5 (1 ∷ 2 ∷ 3 ∷ 4 ∷ []) usualAccount countingFill 8) 0 (0x14 ∷ 0x12 ∷ 0x34 ∷ 0x67 ∷ 0x89 ∷ 0xAB ∷ 0xCD ∷ 0xEF ∷ [])
+    ∷ gives (writeBlock 47 (1 ∷ 2 ∷ 3 ∷ 4 ∷ []) usualAccount countingFill 8) 0 (0x34 ∷ 0x12 ∷ 0x74 ∷ 0xAB ∷ 0xCD ∷ 0xFD ∷ 0x9F ∷ 0x9B ∷ [])
     ∷ []
 
 -- every figure of the bench is as printed, whatever follows where it gives the beginning of a block
