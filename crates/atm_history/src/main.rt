@@ -81,7 +81,7 @@ fn show_response(settings: Settings, format: u32, block: [u8; 8]) {
     let command = command_in(format);
     let enciphered = classroom::ENCIPHERED;
     let mut response = [0u8; 65];
-    let reply = commands::answer(
+    let told = commands::answer(
         settings,
         true,
         true,
@@ -90,7 +90,7 @@ fn show_response(settings: Settings, format: u32, block: [u8; 8]) {
         &enciphered,
         &mut response,
     );
-    let n = io::count(reply.written as isize, &response);
+    let n = io::count(told.reply.written as isize, &response);
     show(b"  BK's response ", &response[..n]);
 }
 

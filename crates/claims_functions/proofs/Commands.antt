@@ -1,7 +1,7 @@
 -- One answer to every promise of the crates of commands: each function cites the law of its shape.
 -- Assumes nothing.
 use Rattle.claims_functions.specs.Commands.{KeyBoxSettled, ResponsesSettled, FrameSettled, FieldsSettled, LmkSettled, UsesSettled, KeyLengthsSettled, KeyBlocksSettled, KeysSettled, WeakSettled, WeakFieldSettled, FormatFieldSettled, ValidationFieldSettled, OffsetFieldSettled, KeyFieldsSettled, SealedSettled, OffsettingSettled, WeakListSettled, EndingsSettled, PairingSettled, BkFieldsSettled, BkFinishSettled, BkSettled, VerifyFieldsSettled, VerifyFinishSettled, VerifySettled, CommandsSettled}
-use Rattle.claims_functions.proofs.Once.{settled, left, answered}
+use Rattle.claims_functions.proofs.Once.{settled, left, told, told-refused}
 
 pub key-box-once : KeyBoxSettled
 key-box-once = record {
@@ -11,9 +11,10 @@ key-box-once = record {
 
 pub responses-once : ResponsesSettled
 responses-once = record {
+  Told·refused = λ κs a r r′ ends ends′. told-refused;
   Asked·of = λ κs a r r′ ends ends′. settled;
-  ask = λ κs a r r′ ends ends′. answered 1;
-  respond = λ κs a r r′ ends ends′. answered 3;
+  ask = λ κs a r r′ ends ends′. told 1;
+  respond = λ κs a r r′ ends ends′. told 3;
 }
 
 pub frame-once : FrameSettled
@@ -28,6 +29,7 @@ frame-once = record {
 pub fields-once : FieldsSettled
 fields-once = record {
   Value·refusal = λ κs a r r′ ends ends′. settled;
+  Fault·pointer = λ κs a r r′ ends ends′. settled;
   fault-at = λ κs a r r′ ends ends′. settled;
   unpointed = λ κs a r r′ ends ends′. settled;
   no-fault = λ κs a r r′ ends ends′. settled;
@@ -153,6 +155,6 @@ verify-once = record {
 
 pub commands-once : CommandsSettled
 commands-once = record {
-  ask = λ κs a r r′ ends ends′. answered 2;
-  answer = λ κs a r r′ ends ends′. answered 6;
+  ask = λ κs a r r′ ends ends′. told 2;
+  answer = λ κs a r r′ ends ends′. told 6;
 }

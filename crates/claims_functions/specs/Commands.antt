@@ -38,6 +38,7 @@ pub record KeyBoxSettled : Type 0 where
 
 -- every public function of responses
 pub record ResponsesSettled : Type 0 where
+  pub Told·refused : Settled Responses.Told.refused.ended Responses.Told.refused.Reads.Learnt
   pub Asked·of : Settled Responses.Asked.of.ended Responses.Asked.of.Reads.Learnt
   pub ask : Settled Responses.ask.ended Responses.ask.Reads.Learnt
   pub respond : Settled Responses.respond.ended Responses.respond.Reads.Learnt
@@ -53,6 +54,7 @@ pub record FrameSettled : Type 0 where
 -- every public function of fields
 pub record FieldsSettled : Type 0 where
   pub Value·refusal : Settled Fields.Value.refusal.ended Fields.Value.refusal.Reads.Learnt
+  pub Fault·pointer : Settled Fields.Fault.pointer.ended Fields.Fault.pointer.Reads.Learnt
   pub fault-at : Settled Fields.fault_at.ended Fields.fault_at.Reads.Learnt
   pub unpointed : Settled Fields.unpointed.ended Fields.unpointed.Reads.Learnt
   pub no-fault : Settled Fields.no_fault.ended Fields.no_fault.Reads.Learnt

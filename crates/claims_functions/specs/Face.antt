@@ -1,13 +1,15 @@
--- One answer to every promise of the C face: its settings, and the fifteen calls that are exported.
+-- One answer to every promise of the C face: settings and replies that cross it, and the fifteen calls that are exported.
 -- Each line is over the contract of the function of its name, as the checker reads it for a caller.
-use Rattle.face.proofs as Settings
+use Rattle.face.proofs as Crossing
 use Rattle.quillgimlet.proofs as Face
 use Rattle.claims_functions.specs.Once.{Settled}
 
 -- every public function of face
 pub record FaceSettled : Type 0 where
-  pub inner : Settled Settings.inner.ended Settings.inner.Reads.Learnt
-  pub flag : Settled Settings.flag.ended Settings.flag.Reads.Learnt
+  pub inner : Settled Crossing.inner.ended Crossing.inner.Reads.Learnt
+  pub flag : Settled Crossing.flag.ended Crossing.flag.Reads.Learnt
+  pub pointing : Settled Crossing.pointing.ended Crossing.pointing.Reads.Learnt
+  pub plain : Settled Crossing.plain.ended Crossing.plain.Reads.Learnt
 
 -- every call of quillgimlet
 pub record QuillgimletSettled : Type 0 where

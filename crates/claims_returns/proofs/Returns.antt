@@ -13,6 +13,7 @@ use Rattle.frame.specs.declared.Code.the-variants.{Bk}
 use Rattle.fields.specs.Fields.{Ruling, pointing, unpointed}
 use Rattle.keybox.specs.KeyBox.{slices, parities, boxed}
 use Rattle.commands.specs.Commands.{answered}
+use Rattle.face.specs.Face.{replyIn}
 use Rattle.claims_blocks.specs.Promises.{listed}
 use Rattle.claims_commands.specs.Runs.{codeIn, Reads}
 use Rattle.claims_commands.specs.Claims.{Tells, readNumbers}
@@ -53,15 +54,15 @@ boxed-good end g h block enciphered rows e = judged-good (pointing 0 end (slices
 good : (a : Return) → IsBk a → Answers a → (pinKeyGood a ≡ true) × (pvkGood a ≡ true)
 good a coded e =
     let r = reads-exactly (settings a) (pinKeyGood a) (pvkGood a) (length (before a)) (command a) (block a) (enciphered a) coded .0
-    (subst (λ (n : ℕ). listed n readNumbers ≡ true) (a .allowed .number) e) in
+    (subst (λ (n : ℕ). listed n readNumbers ≡ true) (a .allowed .0 .number) e) in
     boxed-good (length (command a)) (pinKeyGood a) (pvkGood a) (block a) (enciphered a) (r .reaches .rows) (r .reaches .boxed)
 
 pub allowed-returns-tell-differences : AllowedReturnsTellDifferences
 allowed-returns-tell-differences a b p coded coded′ e e′ =
     told (settings a) (settings b) (pinKeyGood a) (pinKeyGood b) (pvkGood a) (pvkGood b) p (good a coded e .0 ∙ sym (good b coded′ e′ .0)) (good a coded e .1 ∙ sym (good b coded′ e′ .1))
-    (command a) (command b) (block a) (block b) (enciphered a) (enciphered b) (before a) (before b) (after a) (after b) (a .reply) (b .reply) coded coded′ (a .allowed) (b .allowed) e e′
+    (command a) (command b) (block a) (block b) (enciphered a) (enciphered b) (before a) (before b) (after a) (after b) (replyIn (a .reply)) (replyIn (b .reply)) coded coded′ (a .allowed .0) (b .allowed .0) e e′
 
 pub allowed-returns-tell-verdicts : AllowedReturnsTellVerdicts
 allowed-returns-tell-verdicts w a b p coded coded′ e e′ =
-    let there = subst (λ (x : Settings). Does (answer x (callOf b)) (before b) (b .reply) (after b)) (sym p) (b .allowed) in
-    returns-tell-verdicts w (settings a) (callOf a) (callOf b) (before a) (before b) (after a) (after b) (a .reply) (b .reply) coded coded′ (a .allowed) there e e′
+    let there = subst (λ (x : Settings). Does (answer x (callOf b)) (before b) (replyIn (b .reply)) (after b)) (sym p) (b .allowed .0) in
+    returns-tell-verdicts w (settings a) (callOf a) (callOf b) (before a) (before b) (after a) (after b) (replyIn (a .reply)) (replyIn (b .reply)) coded coded′ (a .allowed .0) there e e′

@@ -20,14 +20,14 @@ use Rattle.answers.proofs.Laws.{Sixteen}
 use Rattle.frame.specs.Frame.{isFramed, framed, codeOf}
 use Rattle.frame.specs.declared.Code.{Code}
 use Rattle.frame.specs.declared.Code.the-variants.{Bk, Da, Ea, Other}
-use Rattle.fields.specs.Fields.{unpointed, heard}
+use Rattle.fields.specs.Fields.{unpointed, heard, nowhere, shown}
 use Rattle.fields.proofs.Rulings.{pointing-done}
 use Rattle.responses.specs.Responses.{Payload, responding}
 use Rattle.responses.proofs.Laws.{Blocky, Sound}
 use Rattle.uses.specs.Uses.{terminalKey, zoneKey}
 use Rattle.bk.proofs.Places.{asked-row, answer-sound}
 use Rattle.verify.proofs.Places as verify
-use Rattle.commands.specs.Commands.{askBy, answerBy, opened, asking, asked, answered, commanded}
+use Rattle.commands.specs.Commands.{askBy, answerBy, opened, asking, asked, answered, commanded, replying}
 
 -- ---- the asking call
 
@@ -78,6 +78,19 @@ module _ (settings : Settings) (g h : Bool) (s block enciphered : List ℕ) (roo
   pub answered-framed : 65 ≤ room → isFramed (settings .header) s ≡ true → answered settings g h s block enciphered room ≡ responding (settings .header) s (heard (commanded settings g h s block enciphered (settings .header)))
   unfolding answered
   answered-framed r f = rw (le-leb 65 room r, f)
+
+  -- and the fault that is shown
+  pub replying-901 : room < 65 → shown (replying settings g h s block enciphered room) ≡ nowhere
+  unfolding replying
+  replying-901 r = rw (lt-leb 65 room r)
+
+  pub replying-902 : 65 ≤ room → isFramed (settings .header) s ≡ false → shown (replying settings g h s block enciphered room) ≡ nowhere
+  unfolding replying
+  replying-902 r f = rw (le-leb 65 room r, f)
+
+  pub replying-framed : 65 ≤ room → isFramed (settings .header) s ≡ true → replying settings g h s block enciphered room ≡ commanded settings g h s block enciphered (settings .header)
+  unfolding replying
+  replying-framed r f = rw (le-leb 65 room r, f)
 
   -- a refusal that wrote nothing
   pub does-nothing : (q : Refusal) (before : List ℕ) (r : Reply) → answered settings g h s block enciphered room ≡ quietly (refused q) → r .number ≡ numberOf q → r .written ≡ 0 → Does (answered settings g h s block enciphered room) before r before

@@ -66,3 +66,9 @@ answered settings pinKeyGood pvkGood s block enciphered room =
     silently
     (andThen (opened roomToAnswer room (settings .header) s)
     (λ code. done (responding (settings .header) s (heard (commanded settings pinKeyGood pvkGood s block enciphered code)))))
+
+-- the same with its fault: what stands behind 00, or the fault, whose field and place the server is shown
+unfoldable pub replying : Settings → Bool → Bool → List ℕ → List ℕ → List ℕ → ℕ → Ruling (List ℕ)
+replying settings pinKeyGood pvkGood s block enciphered room =
+    andThen (unpointed (opened roomToAnswer room (settings .header) s))
+    (λ code. commanded settings pinKeyGood pvkGood s block enciphered code)

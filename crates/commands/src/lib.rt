@@ -4,14 +4,15 @@ ghost use Prim.Native.Nat.{_+_, _≤_};
 ghost use lib.ListN.{length, drop};
 ghost use Rattle.numbers.specs.Promise.{Does, quietly};
 ghost use Rattle.frame.specs.Frame.{codeOf};
+ghost use Rattle.fields.specs.Fields.{shown};
 ghost use Rattle.responses.specs.Answers.{askedOf, answeredOf};
-ghost use Rattle.commands.specs.Commands.{askBy, answerBy, asking, asked, answered};
+ghost use Rattle.commands.specs.Commands.{askBy, answerBy, asking, asked, answered, replying};
 use fields::Cursor;
 use frame::Code;
 use numbers::Refusal;
-use numbers::Reply;
 use responses::Answered;
 use responses::Asked;
+use responses::Told;
 use settings::Settings;
 use uses::Use;
 
@@ -48,8 +49,8 @@ fn asking(settings: Settings, command: &[u8], room: usize) -> Asked
 }
 
 // Reads a command and writes the block that the key box must encipher.
-pub fn ask(settings: Settings, command: &[u8], out: &mut [u8]) -> Reply
-    ensures { λ r. ⌜ Does (quietly (asked settings (now (command .entry)) (length (now (out .entry))))) (now (out .entry)) r (now (out .exit)) ⌝ }
+pub fn ask(settings: Settings, command: &[u8], out: &mut [u8]) -> Told
+    ensures { λ r. ⌜ Does (quietly (asked settings (now (command .entry)) (length (now (out .entry))))) (now (out .entry)) (r .reply) (now (out .exit)) × (r .pointer ≡ shown (asking settings (now (command .entry)) (length (now (out .entry))))) ⌝ }
 {
     let asked = asking(settings, command, out.len());
     responses::ask(asked, out)
@@ -105,15 +106,15 @@ pub fn answer(
     block: &[u8],
     enciphered: &[u8],
     out: &mut [u8],
-) -> Reply
-    ensures { λ r. ⌜ Does (answered settings pinparity pvkparity (now (command .entry)) (now (block .entry)) (now (enciphered .entry)) (length (now (out .entry)))) (now (out .entry)) r (now (out .exit)) ⌝ }
+) -> Told
+    ensures { λ r. ⌜ Does (answered settings pinparity pvkparity (now (command .entry)) (now (block .entry)) (now (enciphered .entry)) (length (now (out .entry)))) (now (out .entry)) (r .reply) (now (out .exit)) × (r .pointer ≡ shown (replying settings pinparity pvkparity (now (command .entry)) (now (block .entry)) (now (enciphered .entry)) (length (now (out .entry))))) ⌝ }
 {
     if out.len() < ROOM_TO_ANSWER {
-        return Reply::refused(Refusal::Room901);
+        return Told::refused(Refusal::Room901);
     }
     let header = settings.header;
     if !frame::is_framed(header, command) {
-        return Reply::refused(Refusal::Frame902);
+        return Told::refused(Refusal::Frame902);
     }
     let answered = answer_by(
         settings,

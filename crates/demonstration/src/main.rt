@@ -21,7 +21,7 @@ fn main() {
     show_line(&classroom::hex(asked));
 
     let mut response = [0u8; 65];
-    let reply = commands::answer(
+    let told = commands::answer(
         settings,
         true,
         true,
@@ -30,6 +30,6 @@ fn main() {
         &enciphered,
         &mut response,
     );
-    let n = io::count(reply.written as isize, &response);
+    let n = io::count(told.reply.written as isize, &response);
     show_line(&response[..n]);
 }

@@ -18,6 +18,7 @@ use Rattle.numbers.specs.Numbers.{Judged, Outcome, done, refused, andThen, unle
 use Rattle.numbers.specs.declared.Refusal.{Refusal}
 use Rattle.numbers.specs.declared.Refusal.the-variants.{Field15}
 use Rattle.fields.specs.declared.Fault.{Fault}
+use Rattle.fields.specs.declared.Pointer.{Pointer}
 
 -- ---- the kinds of fields
 
@@ -117,3 +118,15 @@ heard (refused f) = refused (f .refusal)
 -- so of a stage
 abbrev pub outcome : {A : Type 0} → Stage A → Outcome A
 outcome stage = heard (ruled stage)
+
+-- what the server is shown of it: "the byte position in the command where the field that failed begins, and which field number"
+abbrev pub pointerOf : Fault → Pointer
+pointerOf f = record { place = f .place; field = f .field }
+
+-- 0 and 0 where nothing is pointed at
+abbrev pub nowhere : Pointer
+nowhere = record { place = 0; field = 0 }
+
+abbrev pub shown : {A : Type 0} → Ruling A → Pointer
+shown (done a) = nowhere
+shown (refused f) = pointerOf f

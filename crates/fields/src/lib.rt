@@ -3,7 +3,7 @@ ghost use mathlib.Core.Path.{_≡_};
 ghost use Prim.Native.Nat.{_+_, _-_, _*_, _≤_};
 ghost use lib.ListN.{length, take, drop};
 ghost use Rattle.alphabet.specs.Alphabet.{allOf, valueOf};
-ghost use Rattle.fields.specs.Fields.{run, number, marked, trailer};
+ghost use Rattle.fields.specs.Fields.{run, number, marked, trailer, pointerOf};
 ghost use Rattle.fields.specs.Answers.{valueFrom, refusalIn, markFrom, noFault};
 use alphabet::Class;
 use numbers::Refusal;
@@ -34,6 +34,27 @@ pub struct Fault {
     pub refusal: Refusal,
     pub field: usize,
     pub place: usize,
+}
+
+// What the server is shown of a fault beside its number.
+pub struct Pointer {
+    pub place: usize,
+    pub field: usize,
+}
+
+impl Pointer {
+    pub const NOWHERE: Pointer = Pointer { place: 0, field: 0 };
+}
+
+impl Fault {
+    pub fn pointer(self) -> Pointer
+        ensures { λ r. ⌜ r ≡ pointerOf self ⌝ }
+    {
+        Pointer {
+            place: self.place,
+            field: self.field,
+        }
+    }
 }
 
 impl Value {

@@ -1,4 +1,5 @@
-// The C face: what the classroom server links. Each call hands its numbers and byte runs on, and keeps its callee's promise.
+// The C face: what the classroom server links. Each call hands its numbers and byte runs on, and keeps its callee's promise; beside it
+// stands what its reply points at.
 ghost use mathlib.Core.Path.{_≡_};
 ghost use lib.ListN.{length};
 ghost use Rattle.numbers.specs.Promise.{Does, quietly};
@@ -11,10 +12,11 @@ ghost use Rattle.offsets.specs.Offsets.{offsetMade, offsetOfDigits, differences
 ghost use Rattle.verdicts.specs.Verdicts.{offsetVerdict};
 ghost use Rattle.pvv.specs.Pvv.{pvvInput, pvvMade, pvvVerdict};
 ghost use Rattle.settings.specs.Settings.{usually};
-ghost use Rattle.commands.specs.Commands.{asked, answered};
-ghost use Rattle.face.specs.Face.{yes?, settingsOf, faceOf};
+ghost use Rattle.fields.specs.Fields.{nowhere, shown};
+ghost use Rattle.commands.specs.Commands.{asked, asking, answered, replying};
+ghost use Rattle.face.specs.Face.{yes?, settingsOf, faceOf, replyIn, pointerIn};
+use face::FaceReply;
 use face::FaceSettings;
-use numbers::Reply;
 use settings::Settings;
 
 #[no_mangle]
@@ -30,10 +32,11 @@ pub extern "C" fn qg_usual() -> FaceSettings
 }
 
 #[no_mangle]
-pub extern "C" fn qg_ask(settings: FaceSettings, command: &[u8], out: &mut [u8]) -> Reply
-    ensures { λ r. ⌜ Does (quietly (asked (settingsOf settings) (now (command .entry)) (length (now (out .entry))))) (now (out .entry)) r (now (out .exit)) ⌝ }
+pub extern "C" fn qg_ask(settings: FaceSettings, command: &[u8], out: &mut [u8]) -> FaceReply
+    ensures { λ r. ⌜ Does (quietly (asked (settingsOf settings) (now (command .entry)) (length (now (out .entry))))) (now (out .entry)) (replyIn r) (now (out .exit)) × (pointerIn r ≡ shown (asking (settingsOf settings) (now (command .entry)) (length (now (out .entry))))) ⌝ }
 {
-    commands::ask(face::inner(settings), command, out)
+    let told = commands::ask(face::inner(settings), command, out);
+    face::pointing(told.reply, told.pointer)
 }
 
 #[no_mangle]
@@ -45,10 +48,10 @@ pub extern "C" fn qg_answer(
     block: &[u8],
     enciphered: &[u8],
     out: &mut [u8],
-) -> Reply
-    ensures { λ r. ⌜ Does (answered (settingsOf settings) (yes? pinparity) (yes? pvkparity) (now (command .entry)) (now (block .entry)) (now (enciphered .entry)) (length (now (out .entry)))) (now (out .entry)) r (now (out .exit)) ⌝ }
+) -> FaceReply
+    ensures { λ r. ⌜ Does (answered (settingsOf settings) (yes? pinparity) (yes? pvkparity) (now (command .entry)) (now (block .entry)) (now (enciphered .entry)) (length (now (out .entry)))) (now (out .entry)) (replyIn r) (now (out .exit)) × (pointerIn r ≡ shown (replying (settingsOf settings) (yes? pinparity) (yes? pvkparity) (now (command .entry)) (now (block .entry)) (now (enciphered .entry)) (length (now (out .entry))))) ⌝ }
 {
-    commands::answer(
+    let told = commands::answer(
         face::inner(settings),
         pinparity != 0,
         pvkparity != 0,
@@ -56,14 +59,20 @@ pub extern "C" fn qg_answer(
         block,
         enciphered,
         out,
-    )
+    );
+    face::pointing(told.reply, told.pointer)
 }
 
 #[no_mangle]
-pub extern "C" fn qg_read_block(format: u32, block: &[u8], account: &[u8], out: &mut [u8]) -> Reply
-    ensures { λ r. ⌜ Does (quietly (readBlock format (now (block .entry)) (now (account .entry)) (length (now (out .entry))))) (now (out .entry)) r (now (out .exit)) ⌝ }
+pub extern "C" fn qg_read_block(
+    format: u32,
+    block: &[u8],
+    account: &[u8],
+    out: &mut [u8],
+) -> FaceReply
+    ensures { λ r. ⌜ Does (quietly (readBlock format (now (block .entry)) (now (account .entry)) (length (now (out .entry))))) (now (out .entry)) (replyIn r) (now (out .exit)) × (pointerIn r ≡ nowhere) ⌝ }
 {
-    blockcalls::read_block(format, block, account, out)
+    face::plain(blockcalls::read_block(format, block, account, out))
 }
 
 #[no_mangle]
@@ -73,10 +82,10 @@ pub extern "C" fn qg_write_block(
     account: &[u8],
     fill: &[u8],
     out: &mut [u8],
-) -> Reply
-    ensures { λ r. ⌜ Does (quietly (writeBlock format (now (pin .entry)) (now (account .entry)) (now (fill .entry)) (length (now (out .entry))))) (now (out .entry)) r (now (out .exit)) ⌝ }
+) -> FaceReply
+    ensures { λ r. ⌜ Does (quietly (writeBlock format (now (pin .entry)) (now (account .entry)) (now (fill .entry)) (length (now (out .entry))))) (now (out .entry)) (replyIn r) (now (out .exit)) × (pointerIn r ≡ nowhere) ⌝ }
 {
-    blockcalls::write_block(format, pin, account, fill, out)
+    face::plain(blockcalls::write_block(format, pin, account, fill, out))
 }
 
 #[no_mangle]
@@ -88,17 +97,21 @@ pub extern "C" fn qg_translate(
     account: &[u8],
     fill: &[u8],
     out: &mut [u8],
-) -> Reply
-    ensures { λ r. ⌜ Does (quietly (translateBlock (yes? (settings .restricted)) from to (now (block .entry)) (now (account .entry)) (now (fill .entry)) (length (now (out .entry))))) (now (out .entry)) r (now (out .exit)) ⌝ }
+) -> FaceReply
+    ensures { λ r. ⌜ Does (quietly (translateBlock (yes? (settings .restricted)) from to (now (block .entry)) (now (account .entry)) (now (fill .entry)) (length (now (out .entry))))) (now (out .entry)) (replyIn r) (now (out .exit)) × (pointerIn r ≡ nowhere) ⌝ }
 {
-    translation::translate(face::inner(settings), from, to, block, account, fill, out)
+    face::plain(translation::translate(face::inner(settings), from, to, block, account, fill, out))
 }
 
 #[no_mangle]
-pub extern "C" fn qg_validation_block(validation: &[u8], account: &[u8], out: &mut [u8]) -> Reply
-    ensures { λ r. ⌜ Does (quietly (validationBlock (now (validation .entry)) (now (account .entry)) (lib.ListN.length (now (out .entry))))) (now (out .entry)) r (now (out .exit)) ⌝ }
+pub extern "C" fn qg_validation_block(
+    validation: &[u8],
+    account: &[u8],
+    out: &mut [u8],
+) -> FaceReply
+    ensures { λ r. ⌜ Does (quietly (validationBlock (now (validation .entry)) (now (account .entry)) (lib.ListN.length (now (out .entry))))) (now (out .entry)) (replyIn r) (now (out .exit)) × (pointerIn r ≡ nowhere) ⌝ }
 {
-    validation::validation_block(validation, account, out)
+    face::plain(validation::validation_block(validation, account, out))
 }
 
 #[no_mangle]
@@ -107,10 +120,10 @@ pub extern "C" fn qg_natural_pin(
     table: &[u8],
     enciphered: &[u8],
     out: &mut [u8],
-) -> Reply
-    ensures { λ r. ⌜ Does (quietly (naturalPin length (now (table .entry)) (now (enciphered .entry)) (lib.ListN.length (now (out .entry))))) (now (out .entry)) r (now (out .exit)) ⌝ }
+) -> FaceReply
+    ensures { λ r. ⌜ Does (quietly (naturalPin length (now (table .entry)) (now (enciphered .entry)) (lib.ListN.length (now (out .entry))))) (now (out .entry)) (replyIn r) (now (out .exit)) × (pointerIn r ≡ nowhere) ⌝ }
 {
-    naturals::natural_pin(length, table, enciphered, out)
+    face::plain(naturals::natural_pin(length, table, enciphered, out))
 }
 
 #[no_mangle]
@@ -123,10 +136,10 @@ pub extern "C" fn qg_offset(
     table: &[u8],
     enciphered: &[u8],
     out: &mut [u8],
-) -> Reply
-    ensures { λ r. ⌜ Does (quietly (offsetMade (yes? (settings .variable)) format check (now (block .entry)) (now (account .entry)) (now (table .entry)) (now (enciphered .entry)) (lib.ListN.length (now (out .entry))))) (now (out .entry)) r (now (out .exit)) ⌝ }
+) -> FaceReply
+    ensures { λ r. ⌜ Does (quietly (offsetMade (yes? (settings .variable)) format check (now (block .entry)) (now (account .entry)) (now (table .entry)) (now (enciphered .entry)) (lib.ListN.length (now (out .entry))))) (now (out .entry)) (replyIn r) (now (out .exit)) × (pointerIn r ≡ nowhere) ⌝ }
 {
-    offsets::offset(
+    face::plain(offsets::offset(
         face::inner(settings),
         format,
         check,
@@ -135,7 +148,7 @@ pub extern "C" fn qg_offset(
         table,
         enciphered,
         out,
-    )
+    ))
 }
 
 #[no_mangle]
@@ -145,10 +158,10 @@ pub extern "C" fn qg_offset_of_digits(
     pin: &[u8],
     natural: &[u8],
     out: &mut [u8],
-) -> Reply
-    ensures { λ r. ⌜ Does (quietly (offsetOfDigits (yes? (settings .variable)) check (now (pin .entry)) (now (natural .entry)) (lib.ListN.length (now (out .entry))))) (now (out .entry)) r (now (out .exit)) ⌝ }
+) -> FaceReply
+    ensures { λ r. ⌜ Does (quietly (offsetOfDigits (yes? (settings .variable)) check (now (pin .entry)) (now (natural .entry)) (lib.ListN.length (now (out .entry))))) (now (out .entry)) (replyIn r) (now (out .exit)) × (pointerIn r ≡ nowhere) ⌝ }
 {
-    offsets::offset_of_digits(face::inner(settings), check, pin, natural, out)
+    face::plain(offsets::offset_of_digits(face::inner(settings), check, pin, natural, out))
 }
 
 #[no_mangle]
@@ -158,10 +171,10 @@ pub extern "C" fn qg_differences(
     pin: &[u8],
     natural: &[u8],
     out: &mut [i8],
-) -> Reply
-    ensures { λ r. ⌜ Does (quietly (differencesOf (yes? (settings .variable)) check (now (pin .entry)) (now (natural .entry)) (lib.ListN.length (now (out .entry))))) (now (out .entry)) r (now (out .exit)) ⌝ }
+) -> FaceReply
+    ensures { λ r. ⌜ Does (quietly (differencesOf (yes? (settings .variable)) check (now (pin .entry)) (now (natural .entry)) (lib.ListN.length (now (out .entry))))) (now (out .entry)) (replyIn r) (now (out .exit)) × (pointerIn r ≡ nowhere) ⌝ }
 {
-    offsets::differences(face::inner(settings), check, pin, natural, out)
+    face::plain(offsets::differences(face::inner(settings), check, pin, natural, out))
 }
 
 #[no_mangle]
@@ -174,10 +187,10 @@ pub extern "C" fn qg_offset_verdict(
     table: &[u8],
     enciphered: &[u8],
     offset: &[u8],
-) -> Reply
-    ensures { λ r. ⌜ Does (quietly (offsetVerdict (yes? (settings .variable)) format check (now (block .entry)) (now (account .entry)) (now (table .entry)) (now (enciphered .entry)) (now (offset .entry)))) [] r [] ⌝ }
+) -> FaceReply
+    ensures { λ r. ⌜ Does (quietly (offsetVerdict (yes? (settings .variable)) format check (now (block .entry)) (now (account .entry)) (now (table .entry)) (now (enciphered .entry)) (now (offset .entry)))) [] (replyIn r) [] × (pointerIn r ≡ nowhere) ⌝ }
 {
-    verdicts::offset_verdict(
+    face::plain(verdicts::offset_verdict(
         face::inner(settings),
         format,
         check,
@@ -186,7 +199,7 @@ pub extern "C" fn qg_offset_verdict(
         table,
         enciphered,
         offset,
-    )
+    ))
 }
 
 #[no_mangle]
@@ -196,17 +209,17 @@ pub extern "C" fn qg_pvv_input(
     block: &[u8],
     account: &[u8],
     out: &mut [u8],
-) -> Reply
-    ensures { λ r. ⌜ Does (quietly (pvvInput format index (now (block .entry)) (now (account .entry)) (lib.ListN.length (now (out .entry))))) (now (out .entry)) r (now (out .exit)) ⌝ }
+) -> FaceReply
+    ensures { λ r. ⌜ Does (quietly (pvvInput format index (now (block .entry)) (now (account .entry)) (lib.ListN.length (now (out .entry))))) (now (out .entry)) (replyIn r) (now (out .exit)) × (pointerIn r ≡ nowhere) ⌝ }
 {
-    pvv::pvv_input(format, index, block, account, out)
+    face::plain(pvv::pvv_input(format, index, block, account, out))
 }
 
 #[no_mangle]
-pub extern "C" fn qg_pvv(enciphered: &[u8], out: &mut [u8]) -> Reply
-    ensures { λ r. ⌜ Does (quietly (pvvMade (now (enciphered .entry)) (lib.ListN.length (now (out .entry))))) (now (out .entry)) r (now (out .exit)) ⌝ }
+pub extern "C" fn qg_pvv(enciphered: &[u8], out: &mut [u8]) -> FaceReply
+    ensures { λ r. ⌜ Does (quietly (pvvMade (now (enciphered .entry)) (lib.ListN.length (now (out .entry))))) (now (out .entry)) (replyIn r) (now (out .exit)) × (pointerIn r ≡ nowhere) ⌝ }
 {
-    pvv::pvv(enciphered, out)
+    face::plain(pvv::pvv(enciphered, out))
 }
 
 #[no_mangle]
@@ -217,8 +230,8 @@ pub extern "C" fn qg_pvv_verdict(
     account: &[u8],
     enciphered: &[u8],
     pvv: &[u8],
-) -> Reply
-    ensures { λ r. ⌜ Does (quietly (pvvVerdict format index (now (block .entry)) (now (account .entry)) (now (enciphered .entry)) (now (pvv .entry)))) [] r [] ⌝ }
+) -> FaceReply
+    ensures { λ r. ⌜ Does (quietly (pvvVerdict format index (now (block .entry)) (now (account .entry)) (now (enciphered .entry)) (now (pvv .entry)))) [] (replyIn r) [] × (pointerIn r ≡ nowhere) ⌝ }
 {
-    pvv::pvv_verdict(format, index, block, account, enciphered, pvv)
+    face::plain(pvv::pvv_verdict(format, index, block, account, enciphered, pvv))
 }

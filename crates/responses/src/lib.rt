@@ -4,10 +4,13 @@ ghost use mathlib.Core.List.{_++_};
 ghost use Prim.Native.Nat.{_≤_};
 ghost use lib.ListN.{length, drop};
 ghost use Rattle.numbers.specs.Promise.{Does, quietly};
-ghost use Rattle.fields.specs.Fields.{heard};
+ghost use Rattle.numbers.specs.Numbers.{numberOf};
+ghost use Rattle.fields.specs.Fields.{heard, nowhere, shown};
 ghost use Rattle.responses.specs.Responses.{responding};
 ghost use Rattle.responses.specs.Answers.{askedRow, askFault, askedBytes, RoomToAsk, answerFault, carried, answeredText, Short, Brief, Writable, Responding};
 use fields::Fault;
+use fields::Pointer;
+use numbers::Refusal;
 use numbers::Reply;
 use pins::Pin;
 use pins::Row;
@@ -28,6 +31,24 @@ pub enum Asked {
 pub enum Answered {
     With(Payload, usize),
     Bad(Fault),
+}
+
+// What a call of a command answers: the reply, and what the server is shown of a fault.
+pub struct Told {
+    pub reply: Reply,
+    pub pointer: Pointer,
+}
+
+impl Told {
+    // A refusal that writes nothing and points at nothing.
+    pub fn refused(refusal: Refusal) -> Told
+        ensures { λ r. ⌜ (r .reply .number ≡ numberOf refusal) × (r .reply .written ≡ 0) × (r .pointer ≡ nowhere) ⌝ }
+    {
+        Told {
+            reply: Reply::refused(refusal),
+            pointer: Pointer::NOWHERE,
+        }
+    }
 }
 
 impl Asked {
@@ -64,17 +85,23 @@ impl Answered {
 }
 
 // Writes the block that the key box must encipher, or nothing.
-pub fn ask(asked: Asked, out: &mut [u8]) -> Reply
+pub fn ask(asked: Asked, out: &mut [u8]) -> Told
     requires { ⌜ RoomToAsk asked (length (now out)) ⌝ }
-    ensures { λ r. ⌜ Does (quietly (heard (askedBytes asked))) (now (out .entry)) r (now (out .exit)) ⌝ }
+    ensures { λ r. ⌜ Does (quietly (heard (askedBytes asked))) (now (out .entry)) (r .reply) (now (out .exit)) × (r .pointer ≡ shown (askedBytes asked)) ⌝ }
 {
     let Asked::Block(row) = asked else {
         let fault = asked.fault();
         let refusal = fault.refusal;
-        return Reply::refused(refusal);
+        return Told {
+            reply: Reply::refused(refusal),
+            pointer: fault.pointer(),
+        };
     };
     nibbles::put_bytes(row, out);
-    Reply::done(8)
+    Told {
+        reply: Reply::done(8),
+        pointer: Pointer::NOWHERE,
+    }
 }
 
 // Writes a payload over the beginning of the output, and tells how many bytes it has: at most twelve.
@@ -110,9 +137,9 @@ fn respond_with(
 }
 
 // Writes the response of a command that has a frame.
-pub fn respond(header: usize, command: &[u8], answered: Answered, out: &mut [u8]) -> Reply
+pub fn respond(header: usize, command: &[u8], answered: Answered, out: &mut [u8]) -> Told
     requires { ⌜ Responding header (now command) (length (now out)) × Writable (now command) answered ⌝ }
-    ensures { λ r. ⌜ Does (responding header (now (command .entry)) (heard (answeredText (now (command .entry)) answered))) (now (out .entry)) r (now (out .exit)) ⌝ }
+    ensures { λ r. ⌜ Does (responding header (now (command .entry)) (heard (answeredText (now (command .entry)) answered))) (now (out .entry)) (r .reply) (now (out .exit)) × (r .pointer ≡ shown (answeredText (now (command .entry)) answered)) ⌝ }
 {
     let Answered::With(payload, mark) = answered else {
         let fault = answered.fault();
@@ -121,10 +148,17 @@ pub fn respond(header: usize, command: &[u8], answered: Answered, out: &mut [u8]
         // Not before the header: what stands between keeps the compiler from a jump for each number.
         let number = refusal.number();
         frame::put_code(header, command, number, &mut out[header..]);
-        return Reply {
+        let reply = Reply {
             number,
             written: header as u32 + 4,
         };
+        return Told {
+            reply,
+            pointer: fault.pointer(),
+        };
     };
-    respond_with(header, command, payload, mark, out)
+    Told {
+        reply: respond_with(header, command, payload, mark, out),
+        pointer: Pointer::NOWHERE,
+    }
 }

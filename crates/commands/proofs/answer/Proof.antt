@@ -9,11 +9,10 @@ use Rattle.numbers.specs.declared.Refusal.the-variants.{Room901, Frame902}
 use Rattle.frame.specs.Frame.{codeOf}
 use Rattle.frame.proofs.Laws.{framed-bounds}
 use Rattle.commands.specs.Commands.{answerBy, commanded}
-use Rattle.fields.specs.Fields.{heard}
+use Rattle.fields.specs.Fields.{heard, shown}
 use Rattle.responses.specs.Answers.{answeredText, Writable}
-use Rattle.responses.specs.declared.Answered.{Answered}
 use Rattle.responses.proofs.Laws.{sound-writable, sound-text, responds-as}
-use Rattle.commands.proofs.Laws.{answer-by-sound, answered-901, answered-902, answered-framed, does-nothing, does-answered}
+use Rattle.commands.proofs.Laws.{answer-by-sound, answered-901, answered-902, answered-framed, replying-901, replying-902, replying-framed, does-nothing, does-answered}
 use borrow.Author.Needs.{needs}
 use Rattle.commands.proofs.answer.Statement.{statement}
 use Rattle.commands.proofs.answer.Tie as tie
@@ -25,8 +24,11 @@ returns : tie.Need-returns
 returns c =
     let a = c .before .before .before .before .before .before .args in
     let room = length (a .out .now) in
-    does-nothing (a .settings) (a .pinparity) (a .pvkparity) (a .command .now) (a .block .now) (a .enciphered .now) room Room901 (a .out .now) (c .refused .result)
-    (answered-901 (a .settings) (a .pinparity) (a .pvkparity) (a .command .now) (a .block .now) (a .enciphered .now) room (c .before .if1 .taken)) (c .refused .ensures .0) (c .refused .ensures .1)
+    let r = c .refused .ensures in (
+      does-nothing (a .settings) (a .pinparity) (a .pvkparity) (a .command .now) (a .block .now) (a .enciphered .now) room Room901 (a .out .now) (c .refused .result .reply)
+          (answered-901 (a .settings) (a .pinparity) (a .pvkparity) (a .command .now) (a .block .now) (a .enciphered .now) room (c .before .if1 .taken)) (r .0) (r .1),
+      r .2 ∙ sym (replying-901 (a .settings) (a .pinparity) (a .pvkparity) (a .command .now) (a .block .now) (a .enciphered .now) room (c .before .if1 .taken)),
+    )
 
 is-framed-requires : tie.Need-is-framed-requires
 is-framed-requires c κs = search needs
@@ -38,9 +40,12 @@ returns-2 : tie.Need-returns-2
 returns-2 c =
     let a = c .before .before .before .before .before .before .before .before .args in
     let room = length (a .out .now) in
-    does-nothing (a .settings) (a .pinparity) (a .pvkparity) (a .command .now) (a .block .now) (a .enciphered .now) room Frame902 (a .out .now) (c .refused2 .result)
-    (answered-902 (a .settings) (a .pinparity) (a .pvkparity) (a .command .now) (a .block .now) (a .enciphered .now) room (c .before .before .before .if1 .left) (sym (c .before .before .is-framed .ensures) ∙ not-true (c .before .before .is-framed .result) (c .before .if2 .taken)))
-    (c .refused2 .ensures .0) (c .refused2 .ensures .1)
+    let r = c .refused2 .ensures in
+    let unframed = sym (c .before .before .is-framed .ensures) ∙ not-true (c .before .before .is-framed .result) (c .before .if2 .taken) in (
+      does-nothing (a .settings) (a .pinparity) (a .pvkparity) (a .command .now) (a .block .now) (a .enciphered .now) room Frame902 (a .out .now) (c .refused2 .result .reply)
+          (answered-902 (a .settings) (a .pinparity) (a .pvkparity) (a .command .now) (a .block .now) (a .enciphered .now) room (c .before .before .before .if1 .left) unframed) (r .0) (r .1),
+      r .2 ∙ sym (replying-902 (a .settings) (a .pinparity) (a .pvkparity) (a .command .now) (a .block .now) (a .enciphered .now) room (c .before .before .before .if1 .left) unframed),
+    )
 
 answer-by-requires : tie.Need-answer-by-requires
 answer-by-requires c κs =
@@ -69,12 +74,15 @@ returns-3 c =
     let at = a .settings .header in
     let room = length (a .out .now) in
     let framed = sym (c .before .before .before .before .before .before .is-framed .ensures) ∙ not-false (c .before .before .before .before .before .before .is-framed .result) (c .before .before .before .before .before .if2 .left) in
-    let text = ap (λ (x : Answered). heard (answeredText s x)) (c .before .before .before .before .answer-by .ensures)
-    ∙ ap heard (sound-text s (answerBy (codeOf (drop at s)) (a .settings) (a .pinparity) (a .pvkparity) s (at + 2) (a .block .now) (a .enciphered .now))
-    (answer-by-sound (codeOf (drop at s)) (a .settings) (a .pinparity) (a .pvkparity) s (at + 2) (a .block .now) (a .enciphered .now))) in
-    does-answered (a .settings) (a .pinparity) (a .pvkparity) s (a .block .now) (a .enciphered .now) room (heard (commanded (a .settings) (a .pinparity) (a .pvkparity) s (a .block .now) (a .enciphered .now) at)) (a .out .now) _ _
-    (answered-framed (a .settings) (a .pinparity) (a .pvkparity) s (a .block .now) (a .enciphered .now) room (c .before .before .before .before .before .before .before .if1 .left) framed)
-    (responds-as at s (a .out .now) _ _ _ _ text (c .before .before .respond .ensures))
+    let text = ap (answeredText s) (c .before .before .before .before .answer-by .ensures)
+    ∙ sound-text s (answerBy (codeOf (drop at s)) (a .settings) (a .pinparity) (a .pvkparity) s (at + 2) (a .block .now) (a .enciphered .now))
+    (answer-by-sound (codeOf (drop at s)) (a .settings) (a .pinparity) (a .pvkparity) s (at + 2) (a .block .now) (a .enciphered .now)) in
+    let roomy = c .before .before .before .before .before .before .before .if1 .left in (
+      does-answered (a .settings) (a .pinparity) (a .pvkparity) s (a .block .now) (a .enciphered .now) room (heard (commanded (a .settings) (a .pinparity) (a .pvkparity) s (a .block .now) (a .enciphered .now) at)) (a .out .now) _ _
+          (answered-framed (a .settings) (a .pinparity) (a .pvkparity) s (a .block .now) (a .enciphered .now) room roomy framed)
+          (responds-as at s (a .out .now) _ _ _ _ (ap heard text) (c .before .before .respond .ensures .0)),
+      c .before .before .respond .ensures .1 ∙ ap shown (text ∙ sym (replying-framed (a .settings) (a .pinparity) (a .pvkparity) s (a .block .now) (a .enciphered .now) room roomy framed)),
+    )
 
 pub answer-spec : {M : Type 1} → statement M
 answer-spec =

@@ -3,7 +3,7 @@
 use mathlib.Core.Path.{ap, sym, _∙_, subst}
 use lib.ListN.{length}
 use Rattle.numbers.proofs.Laws.{does-as}
-use Rattle.fields.specs.Fields.{heard}
+use Rattle.fields.specs.Fields.{heard, shown}
 use Rattle.responses.specs.Answers.{RoomToAsk, askedBytes}
 use Rattle.responses.specs.declared.Asked.{Asked}
 use Rattle.responses.proofs.Laws.{asked-bytes, asked-roomy}
@@ -31,7 +31,8 @@ returns c =
     let a = c .before .before .before .before .before .before .before .args in
     let room = length (a .out .now) in
     let o = asking (a .settings) (a .command .now) room in
-    does-as _ (heard o) (ap (λ (j : Asked). heard (askedBytes j)) (c .before .before .before .before .asking .ensures) ∙ ap heard (asked-bytes o room (asked-block (a .settings) (a .command .now) room))) (c .before .before .ask .ensures)
+    let e = ap askedBytes (c .before .before .before .before .asking .ensures) ∙ asked-bytes o room (asked-block (a .settings) (a .command .now) room) in
+    (does-as _ (heard o) (ap heard e) (c .before .before .ask .ensures .0), c .before .before .ask .ensures .1 ∙ ap shown e)
 
 pub ask-spec : {M : Type 1} → statement M
 ask-spec = tie.close (tie.spec asking-requires ask-requires same-length returns)

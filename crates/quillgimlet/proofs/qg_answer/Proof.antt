@@ -1,14 +1,15 @@
 -- `quillgimlet::qg_answer` meets its contract.
 -- Assumes nothing.
-use Prim.Native.Nat.{ℕ}
-use mathlib.Core.Path.{_≡_, ap}
+use mathlib.Core.Path.{ap, sym, _∙_, subst}
+use Prim.Native.Nat.{_≤_}
 use lib.ListN.{length}
-use mathlib.Core.List.{List}
-use Rattle.numbers.specs.declared.Reply.{Reply}
 use Rattle.settings.specs.declared.Settings.{Settings}
-use Rattle.numbers.specs.Promise.{Said, Does}
-use Rattle.commands.specs.Commands.{answered}
+use Rattle.fields.specs.Fields.{shown}
+use Rattle.fields.specs.declared.Pointer.{Pointer}
+use Rattle.commands.specs.Commands.{answered, replying}
+use Rattle.places.proofs.Calls.{replying-rules, shown-short}
 use Rattle.face.specs.Face.{yes?}
+use Rattle.face.proofs.Laws.{faced}
 use borrow.Author.Needs.{needs}
 use Rattle.quillgimlet.proofs.qg_answer.Statement.{statement}
 use Rattle.quillgimlet.proofs.qg_answer.Tie as tie
@@ -19,17 +20,25 @@ inner-requires c κs = search needs
 answer-requires : tie.Need-answer-requires
 answer-requires c κs = search needs
 
+pointing-requires : tie.Need-pointing-requires
+pointing-requires c κs =
+    let a = c .before .before .before .before .before .before .before .before .before .args in
+    let settings = c .before .before .before .before .inner .result in
+    let room = length (a .out .now) in
+    let o = replying settings (yes? (a .pinparity)) (yes? (a .pvkparity)) (a .command .now) (a .block .now) (a .enciphered .now) room in
+    subst (λ (p : Pointer). (p .place ≤ 4096) × (p .field ≤ 4096)) (sym (c .before .before .answer .ensures .1))
+    (shown-short (a .command .now) o (replying-rules (a .command .now) settings (yes? (a .pinparity)) (yes? (a .pvkparity)) (a .block .now) (a .enciphered .now) room))
+
 same-length : tie.Need-same-length
 same-length c = search needs
 
--- the same said by another name
-says-as : {said t : Said ℕ} {before after : List ℕ} {r : Reply} → said ≡ t → Does said before r after → Does t before r after
-says-as e d = rw (← e) d
-
 returns : tie.Need-returns
 returns c =
-    let a = c .before .before .before .before .before .before .before .before .before .args in
-    says-as (ap (λ (s : Settings). answered s (yes? (a .pinparity)) (yes? (a .pvkparity)) (a .command .now) (a .block .now) (a .enciphered .now) (length (a .out .now))) (c .before .before .before .before .inner .ensures)) (c .before .before .answer .ensures)
+    let a = c .before .before .before .before .before .before .before .before .before .before .args in
+    let e = c .before .before .before .before .before .inner .ensures in
+    let told = c .before .before .before .answer .ensures in
+    faced (c .pointing .result) (ap (λ (s : Settings). answered s (yes? (a .pinparity)) (yes? (a .pvkparity)) (a .command .now) (a .block .now) (a .enciphered .now) (length (a .out .now))) e)
+    (told .1 ∙ ap (λ (s : Settings). shown (replying s (yes? (a .pinparity)) (yes? (a .pvkparity)) (a .command .now) (a .block .now) (a .enciphered .now) (length (a .out .now)))) e) (told .0) (c .pointing .ensures)
 
 pub qg-answer-spec : {M : Type 1} → statement M
-qg-answer-spec = tie.close (tie.spec inner-requires answer-requires same-length returns)
+qg-answer-spec = tie.close (tie.spec inner-requires answer-requires pointing-requires same-length returns)

@@ -8,7 +8,7 @@ use Rattle.nibbles.specs.Nibbles.{row, packs}
 use Rattle.numbers.specs.Numbers.{numberOf}
 use Rattle.numbers.proofs.Laws.{does-refuse, does-write}
 use Rattle.answers.proofs.Laws.{sixteen-bytes, row-sixteen}
-use Rattle.fields.specs.Fields.{heard}
+use Rattle.fields.specs.Fields.{heard, pointerOf, shown}
 use Rattle.fields.specs.declared.Fault.{Fault}
 use Rattle.responses.specs.Answers.{askFault, askedBytes, RoomToAsk}
 use Rattle.responses.specs.declared.Asked.{Asked}
@@ -28,14 +28,20 @@ fault-requires c κs = search needs
 refused-requires : tie.Need-refused-requires
 refused-requires c κs = search needs
 
+pointer-requires : tie.Need-pointer-requires
+pointer-requires c κs = search needs
+
 returns : tie.Need-returns
 returns c =
-    let told = c .before .before in
+    let refused = c .before .refused .ensures in
+    let told = c .before .before .before in
     let e = told .enum-told .given .1 in
     let a = told .before .before .before .args in
-    let fault = c .before .fault .ensures ∙ ap askFault e in
-    does-refuse (heard (askedBytes (a .asked))) _ (a .out .now) _ (ap (λ (x : Asked). heard (askedBytes x)) e)
-    (c .refused .ensures .0 ∙ ap (λ (f : Fault). numberOf (f .refusal)) fault) (c .refused .ensures .1)
+    let fault = c .before .before .fault .ensures ∙ ap askFault e in (
+      does-refuse (heard (askedBytes (a .asked))) _ (a .out .now) _ (ap (λ (x : Asked). heard (askedBytes x)) e)
+          (refused .0 ∙ ap (λ (f : Fault). numberOf (f .refusal)) fault) (refused .1),
+      c .pointer .ensures ∙ ap pointerOf fault ∙ sym (ap (λ (x : Asked). shown (askedBytes x)) e),
+    )
 
 put-bytes-requires : tie.Need-put-bytes-requires
 put-bytes-requires c κs =
@@ -53,9 +59,11 @@ returns-2 c =
     let held = c .before .before .before .before .before .before in
     let a = held .before .before .before .args in
     let w = held .asked .given .0 .0 in
-    let eight = sixteen-bytes (row 16 w) (row-sixteen w) in
-    does-write (heard (askedBytes (a .asked))) (packs (row 16 w)) (a .out .now) _ (c .done .result) (ap (λ (x : Asked). heard (askedBytes x)) (held .asked .given .1)) (c .done .ensures .0)
-    (c .done .ensures .1 ∙ sym eight) (c .before .before .before .put-bytes .ensures ∙ ap (λ (n : ℕ). packs (row 16 w) ++ drop n (a .out .now)) (sym eight))
+    let eight = sixteen-bytes (row 16 w) (row-sixteen w) in (
+      does-write (heard (askedBytes (a .asked))) (packs (row 16 w)) (a .out .now) _ (c .done .result) (ap (λ (x : Asked). heard (askedBytes x)) (held .asked .given .1)) (c .done .ensures .0)
+          (c .done .ensures .1 ∙ sym eight) (c .before .before .before .put-bytes .ensures ∙ ap (λ (n : ℕ). packs (row 16 w) ++ drop n (a .out .now)) (sym eight)),
+      sym (ap (λ (x : Asked). shown (askedBytes x)) (held .asked .given .1)),
+    )
 
 pub ask-spec : {M : Type 1} → statement M
 ask-spec =
@@ -65,6 +73,7 @@ ask-spec =
     enum-told
     fault-requires
     refused-requires
+    pointer-requires
     returns
     put-bytes-requires
     done-requires

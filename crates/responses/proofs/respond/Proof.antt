@@ -9,7 +9,7 @@ use lib.Seq.{length-take-le}
 use Rattle.numbers.specs.Numbers.{numberOf}
 use Rattle.frame.specs.Frame.{opening, raised, inTwoDigits}
 use Rattle.frame.proofs.Laws.{over-lent}
-use Rattle.fields.specs.Fields.{heard}
+use Rattle.fields.specs.Fields.{heard, pointerOf, shown}
 use Rattle.fields.specs.declared.Fault.{Fault}
 use Rattle.responses.specs.Answers.{answerFault, answeredText, Writable}
 use Rattle.responses.specs.declared.Answered.{Answered}
@@ -52,11 +52,14 @@ part-put-code-end c = search needs
 put-code-requires : tie.Need-put-code-requires
 put-code-requires c κs = search needs
 
-cast-t19 : tie.Need-cast-t19
-cast-t19 c = search needs
+cast-t20 : tie.Need-cast-t20
+cast-t20 c = search needs
 
-add-t20 : tie.Need-add-t20
-add-t20 c = search needs
+add-t21 : tie.Need-add-t21
+add-t21 c = search needs
+
+pointer-requires : tie.Need-pointer-requires
+pointer-requires c κs = search needs
 
 same-length : tie.Need-same-length
 same-length c = search needs
@@ -64,7 +67,7 @@ same-length c = search needs
 returns : tie.Need-returns
 unfolding opening
 returns c =
-    let numbered = c .before .before .before .before in
+    let numbered = c .before .before .before .before .before in
     let headed = numbered .before .before .before in
     let told = headed .before .before .before .before in
     let a = told .before .before .before .before .args in
@@ -75,9 +78,11 @@ returns c =
     let header = take (a .header) s in
     let long = length-take-le (a .header) s (omega arith) in
     let answer = getD s (a .header) 0 ∷ raised (getD s (a .header + 1) 0) ∷ inTwoDigits (numbered .number .result) in
-    let begun = headed .put-run .ensures ∙ ap (λ (k : ℕ). header ++ drop k (a .out .now)) long in
-    does-respond (a .header) s (a .out .now) _ (heard (answeredText s (a .answered))) _ _ (omega arith) (ap (λ (x : Answered). heard (answeredText s x)) e) number refl
-    (over-lent header answer (a .out .now) _ (a .header) 4 long begun _ (c .before .before .put-code .ensures) ∙ ap (λ (k : ℕ). opening (a .header) s k ++ drop (a .header + 4) (a .out .now)) number)
+    let begun = headed .put-run .ensures ∙ ap (λ (k : ℕ). header ++ drop k (a .out .now)) long in (
+      does-respond (a .header) s (a .out .now) _ (heard (answeredText s (a .answered))) _ _ (omega arith) (ap (λ (x : Answered). heard (answeredText s x)) e) number refl
+          (over-lent header answer (a .out .now) _ (a .header) 4 long begun _ (c .before .before .before .put-code .ensures) ∙ ap (λ (k : ℕ). opening (a .header) s k ++ drop (a .header + 4) (a .out .now)) number),
+      c .pointer .ensures ∙ ap pointerOf fault ∙ sym (ap (λ (x : Answered). shown (answeredText s x)) e),
+    )
 
 respond-with-requires : tie.Need-respond-with-requires
 respond-with-requires c κs =
@@ -93,7 +98,10 @@ returns-2 c =
     let got = c .before .before .before .before .before in
     let a = got .before .before .before .before .args in
     let s = a .command .now in
-    responds-as (a .header) s (a .out .now) _ _ _ _ (ap (λ (x : Answered). heard (answeredText s x)) (sym (got .answered .given .1))) (c .before .before .respond-with .ensures)
+    let e = sym (got .answered .given .1) in (
+      responds-as (a .header) s (a .out .now) _ _ _ _ (ap (λ (x : Answered). heard (answeredText s x)) e) (c .before .before .respond-with .ensures),
+      ap (λ (x : Answered). shown (answeredText s x)) e,
+    )
 
 pub respond-spec : {M : Type 1} → statement M
 respond-spec =
@@ -109,8 +117,9 @@ respond-spec =
     part-put-code-start
     part-put-code-end
     put-code-requires
-    cast-t19
-    add-t20
+    cast-t20
+    add-t21
+    pointer-requires
     same-length
     returns
     respond-with-requires
