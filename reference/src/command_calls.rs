@@ -2,9 +2,10 @@
 
 use crate::block;
 use crate::command::{Command, CODE};
-use crate::cursor::printable;
+use crate::cursor::{printable, Cursor};
 use crate::fields::{self, Fields, Task};
 use crate::offset::{self, covered, OFFSET_CHARACTERS};
+use crate::point::{Fault, Point};
 use crate::reply::{eight_bytes, lent, Refusal, Reply};
 use crate::settings::Settings;
 
@@ -18,7 +19,8 @@ const LONGEST_RESPONSE: usize = 65;
 struct Frame<'a> {
     header: &'a [u8],
     code: [u8; CODE],
-    body: &'a [u8],
+    /// All of it: places are counted from its first byte.
+    command: &'a [u8],
 }
 
 /// The usual settings.
@@ -28,12 +30,12 @@ pub fn usual() -> Settings {
 
 /// Reads a command and writes the block that the key box must encipher under the PVK.
 pub fn ask(settings: Settings, command: &[u8], out: &mut [u8]) -> Reply {
-    Reply::of_written(try_ask(settings, command, out))
+    Reply::of_asking(try_ask(settings, command, out))
 }
 
-fn try_ask(settings: Settings, command: &[u8], out: &mut [u8]) -> Result<u32, Refusal> {
-    let out = lent::<8>(out)?;
-    let frame = Frame::of_command(settings, command)?;
+fn try_ask(settings: Settings, command: &[u8], out: &mut [u8]) -> Result<u32, Fault> {
+    let out = lent::<8>(out).map_err(Fault::nowhere)?;
+    let frame = Frame::of_command(settings, command).map_err(Fault::nowhere)?;
     let fields = frame.fields(settings)?;
     *out = fields.validation.to_be_bytes();
     Ok(8)
@@ -71,18 +73,22 @@ fn try_answer(
     let out = lent::<LONGEST_RESPONSE>(out)?;
     let frame = Frame::of_command(settings, command)?;
     let mut response = Response { out, written: 0 };
-    let number = match judge(settings, &key_box, &frame) {
+    let judged = judge(settings, &key_box, &frame);
+    let number = match judged {
         Ok((Outcome::Made(offset), trailer)) => response.done(&frame, &offset, trailer),
         Ok((Outcome::Verifies, trailer)) => response.done(&frame, &[], trailer),
         // "a verdict 01 writes a short response without a trailer"
         Ok((Outcome::DoesNotVerify, _)) => response.short(&frame, Reply::DOES_NOT_VERIFY),
         // "A trailer, with its 19 mark, comes back with 00 only."
-        Err(refusal) => response.short(&frame, refusal.number()),
+        Err(fault) => response.short(&frame, fault.refusal.number()),
     };
-    Ok(Reply { number, written: response.written as u32 })
+    // "Host bytes do not change": the point is in the reply alone.
+    let point = judged.map_or_else(|fault| fault.point, |_| Point::NOWHERE);
+    Ok(Reply::new(number, response.written as u32, point))
 }
 
 /// What comes of a command that nothing refuses.
+#[derive(Clone, Copy)]
 enum Outcome {
     Made([u8; OFFSET_CHARACTERS]),
     Verifies,
@@ -94,9 +100,10 @@ fn judge<'a>(
     settings: Settings,
     key_box: &KeyBox<'_>,
     frame: &Frame<'a>,
-) -> Result<(Outcome, &'a [u8]), Refusal> {
+) -> Result<(Outcome, &'a [u8]), Fault> {
     let fields = frame.fields(settings)?;
-    let outcome = key_box.outcome(settings, &fields)?;
+    let blocks = key_box.blocks().map_err(|refusal| Fault { refusal, point: frame.end() })?;
+    let outcome = key_box.outcome(settings, &fields, blocks).map_err(Fault::nowhere)?;
     Ok((outcome, fields.trailer))
 }
 
@@ -108,16 +115,22 @@ impl<'a> Frame<'a> {
             return Err(Refusal::NoFrame);
         }
         let (header, rest) = command.split_at_checked(settings.header).ok_or(Refusal::NoFrame)?;
-        let (code, body) = rest.split_first_chunk::<CODE>().ok_or(Refusal::NoFrame)?;
+        let code = rest.first_chunk::<CODE>().ok_or(Refusal::NoFrame)?;
         if !header.iter().all(printable) {
             return Err(Refusal::NoFrame);
         }
-        Ok(Frame { header, code: *code, body })
+        Ok(Frame { header, code: *code, command })
     }
 
     /// 68, then the fields.
-    fn fields(&self, settings: Settings) -> Result<Fields<'a>, Refusal> {
-        fields::read(Command::of_code(self.code)?, settings, self.body)
+    fn fields(&self, settings: Settings) -> Result<Fields<'a>, Fault> {
+        let command = Command::of_code(self.code).map_err(Fault::nowhere)?;
+        fields::read(command, settings, Cursor::new(self.command, self.header.len() + CODE))
+    }
+
+    /// "For slices that are not 8 bytes, the position is the command's length."
+    fn end(&self) -> Point {
+        Point::at(self.command.len(), Point::NO_FIELD)
     }
 
     /// "the command code with its second byte raised by one (255 becomes 0)".
@@ -127,10 +140,20 @@ impl<'a> Frame<'a> {
 }
 
 impl KeyBox<'_> {
-    /// "two slices that are not 8 bytes long (15), 10, 11, the block (20 or 24), 81, 86". A
-    /// verdict has 81 in its place, then 00 or 01.
-    fn outcome(&self, settings: Settings, fields: &Fields<'_>) -> Result<Outcome, Refusal> {
-        let [pin_block, enciphered] = self.blocks()?;
+    /// The PIN block and the enciphered block: "two slices that are not 8 bytes long (15)".
+    fn blocks(&self) -> Result<[u64; 2], Refusal> {
+        Ok([eight_bytes(self.pin_block)?, eight_bytes(self.enciphered)?])
+    }
+
+    /// Behind the slices "10, 11, the block (20 or 24), 81, 86". A verdict has 81 in its place,
+    /// then 00 or 01.
+    fn outcome(
+        &self,
+        settings: Settings,
+        fields: &Fields<'_>,
+        [pin_block, enciphered]: [u64; 2],
+    ) -> Result<Outcome, Refusal> {
+        self.parities()?;
         let pin = block::read(fields.format, pin_block, fields.account)?;
         let covered = covered(settings, fields.check, &pin)?;
         let natural = fields.table.natural_pin(enciphered, pin.length());
@@ -145,16 +168,14 @@ impl KeyBox<'_> {
         }
     }
 
-    /// The PIN block and the enciphered block: their lengths (15), then the parities 10 and 11.
-    fn blocks(&self) -> Result<[u64; 2], Refusal> {
-        let blocks = [eight_bytes(self.pin_block)?, eight_bytes(self.enciphered)?];
+    fn parities(&self) -> Result<(), Refusal> {
         if !self.pin_key_parity_good {
             return Err(Refusal::PinKeyParity);
         }
         if !self.pvk_parity_good {
             return Err(Refusal::PvkParity);
         }
-        Ok(blocks)
+        Ok(())
     }
 }
 

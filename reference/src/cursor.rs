@@ -1,11 +1,13 @@
 //! Walking over a command from the left.
 
+use crate::point::{Fault, Point};
 use crate::reply::Refusal;
 use crate::validation::hex_value;
 
-/// What has not been read yet.
+/// A command, and the place from which on it has not been read yet.
 pub struct Cursor<'a> {
-    rest: &'a [u8],
+    command: &'a [u8],
+    place: usize,
 }
 
 /// "printable characters (20 to 7E)".
@@ -21,19 +23,36 @@ pub fn decimal(characters: &[u8]) -> Option<u32> {
 }
 
 impl<'a> Cursor<'a> {
-    pub fn new(rest: &'a [u8]) -> Cursor<'a> {
-        Cursor { rest }
+    /// Behind the command's first `place` bytes, which it must have.
+    pub fn new(command: &'a [u8], place: usize) -> Cursor<'a> {
+        Cursor { command, place }
     }
 
     pub fn rest(&self) -> &'a [u8] {
-        self.rest
+        &self.command[self.place..]
+    }
+
+    /// The next byte, as the first of a field.
+    pub fn point(&self, field: u32) -> Point {
+        Point::at(self.place, field)
+    }
+
+    /// Reads a field. Wherever in it a fault is found, "the byte position in the command where
+    /// the field that failed begins" is this one.
+    pub fn field<T>(
+        &mut self,
+        number: u32,
+        read: impl FnOnce(&mut Cursor<'a>) -> Result<T, Refusal>,
+    ) -> Result<T, Fault> {
+        let point = self.point(number);
+        read(self).map_err(|refusal| Fault { refusal, point })
     }
 
     /// The next `count` characters; "a missing character is judged before a wrong one".
     pub fn take_or(&mut self, count: usize, missing: Refusal) -> Result<&'a [u8], Refusal> {
-        let (field, rest) = self.rest.split_at_checked(count).ok_or(missing)?;
-        self.rest = rest;
-        Ok(field)
+        let taken = self.rest().get(..count).ok_or(missing)?;
+        self.place += count;
+        Ok(taken)
     }
 
     /// The next `count` characters, 15 where they are missing.
@@ -58,12 +77,8 @@ impl<'a> Cursor<'a> {
 
     /// Steps over an optional part's mark, if it stands here.
     pub fn step_over(&mut self, mark: u8) -> bool {
-        match self.rest {
-            [first, rest @ ..] if *first == mark => {
-                self.rest = rest;
-                true
-            }
-            _ => false,
-        }
+        let stands_here = self.rest().first() == Some(&mark);
+        self.place += usize::from(stands_here);
+        stands_here
     }
 }

@@ -1,10 +1,16 @@
 //! The numbers that the host and the server meet.
 
-/// What every call hands back: the number, and how many bytes, digits or differences it wrote.
+use crate::point::{Fault, Point};
+
+/// What every call hands back: the number, how many bytes, digits or differences it wrote, and
+/// where in a command the field that failed begins, with its number. The last two are 0 below the
+/// command level, and wherever no field failed.
 #[derive(Clone, Copy, Debug, PartialEq, Eq)]
 pub struct Reply {
     pub number: u32,
     pub written: u32,
+    pub place: u32,
+    pub field: u32,
 }
 
 /// Each refusal carries its number of the paper's table as its value.
@@ -38,12 +44,17 @@ impl Reply {
     /// "verdict: PIN does not verify".
     pub const DOES_NOT_VERIFY: u32 = 1;
 
-    pub fn done(written: u32) -> Reply {
-        Reply { number: 0, written }
+    pub fn new(number: u32, written: u32, point: Point) -> Reply {
+        Reply { number, written, place: point.place, field: point.field }
     }
 
+    pub fn done(written: u32) -> Reply {
+        Reply::new(0, written, Point::NOWHERE)
+    }
+
+    /// A refusal that writes nothing and points nowhere.
     pub fn refused(refusal: Refusal) -> Reply {
-        Reply { number: refusal.number(), written: 0 }
+        Reply::new(refusal.number(), 0, Point::NOWHERE)
     }
 
     /// A call that writes: how much it wrote, or why it wrote nothing.
@@ -54,7 +65,15 @@ impl Reply {
         }
     }
 
-    /// An answering call: a response was written, or there was no place or no frame for one.
+    /// An asking call: how much it wrote, or why it wrote nothing and where that shows.
+    pub fn of_asking(outcome: Result<u32, Fault>) -> Reply {
+        match outcome {
+            Ok(written) => Reply::done(written),
+            Err(Fault { refusal, point }) => Reply::new(refusal.number(), 0, point),
+        }
+    }
+
+    /// An answering call: a response was written, or there was no room or no frame for one.
     pub fn of_response(outcome: Result<Reply, Refusal>) -> Reply {
         outcome.unwrap_or_else(Reply::refused)
     }
@@ -64,7 +83,7 @@ impl Reply {
     pub fn of_verdict(outcome: Result<bool, Refusal>) -> Reply {
         match outcome {
             Ok(true) => Reply::done(0),
-            Ok(false) => Reply { number: Reply::DOES_NOT_VERIFY, written: 0 },
+            Ok(false) => Reply::new(Reply::DOES_NOT_VERIFY, 0, Point::NOWHERE),
             Err(refusal) => Reply::refused(refusal),
         }
     }

@@ -2,48 +2,10 @@
 
 mod common;
 
-use common::command::{answered, Command, P2, P9};
-use common::{bytes, done, refused, ACCOUNT, CLEAN_03, RUBBISH_03, SHORT_03, TABLE, UNTOUCHED};
-use reference::{answer, ask, usual, Reply, Settings};
-
-const CODE: usize = 1;
-const KEY_TYPE: usize = 2;
-const PIN_KEY: usize = 3;
-const PVK: usize = 4;
-const PIN_BLOCK: usize = 5;
-const FORMAT: usize = 6;
-const CHECK: usize = 7;
-const ACCOUNT_FIELD: usize = 8;
-const TABLE_FIELD: usize = 9;
-const VALIDATION: usize = 10;
-const OPTIONS: usize = 11;
-
-fn of_the_paper() -> Command {
-    let key = [b"U".to_vec(), vec![b'0'; 32]].concat();
-    let fields = vec![
-        b"HDR1".to_vec(),
-        b"BK".to_vec(),
-        b"001".to_vec(),
-        key.clone(),
-        key,
-        vec![b'0'; 16],
-        b"01".to_vec(),
-        b"04".to_vec(),
-        ACCOUNT.to_vec(),
-        TABLE.to_vec(),
-        b"0123456789AN".to_vec(),
-        vec![],
-    ];
-    Command { fields }
-}
-
-/// With two key blocks of 16 characters, LMK id 03.
-fn with_key_blocks() -> Command {
-    of_the_paper()
-        .with(KEY_TYPE, b"FFF")
-        .with(PIN_KEY, b"S1001672TB00N0003")
-        .with(PVK, b"S00016V1TN00N0003")
-}
+use common::bk::*;
+use common::command::{answered, P2, P9};
+use common::{at, bytes, done, refused, CLEAN_03, RUBBISH_03, SHORT_03, UNTOUCHED};
+use reference::{answer, ask, usual, Settings};
 
 /// "answers `HDR1BL009247FFFFFFFF`: header, response code, 00, offset."
 #[test]
@@ -68,7 +30,7 @@ fn usual_settings() {
 fn a_refusal_writes_header_code_and_number() {
     let (reply, response) =
         of_the_paper().with(CHECK, b"03").with(OPTIONS, b"\x19end").answered(usual());
-    assert_eq!(reply, Reply { number: 15, written: 8 });
+    assert_eq!(reply, at(93, 6, 15, 8));
     assert_eq!(response, b"HDR1BL15");
 }
 
@@ -95,9 +57,9 @@ fn output_and_frame_come_first() {
     assert_eq!(reply(4, &command[..5], &mut [0; 65]), refused(902));
     assert_eq!(reply(4, b"HDR\x1FBK", &mut [0; 65]), refused(902));
     assert_eq!(reply(4, b"HDR\x7FBK", &mut [0; 65]), refused(902));
-    assert_eq!(reply(4, b"HDR1BK", &mut [0; 65]), Reply { number: 15, written: 8 });
+    assert_eq!(reply(4, b"HDR1BK", &mut [0; 65]), at(6, 1, 15, 8));
     assert_eq!(reply(4, &[b'A'; 4097], &mut [0; 65]), refused(902));
-    assert_eq!(reply(4, &[b'A'; 4096], &mut [0; 65]), Reply { number: 68, written: 8 });
+    assert_eq!(reply(4, &[b'A'; 4096], &mut [0; 65]), at(0, 0, 68, 8));
     assert_eq!(ask(Settings { header: 17, ..usual() }, &command, &mut [0; 7]), refused(901));
     assert_eq!(ask(Settings { header: 17, ..usual() }, &command, &mut [0; 8]), refused(902));
     assert_eq!(reply(0, &command[4..], &mut [0; 65]), done(16));
@@ -338,7 +300,7 @@ fn slices() {
         let mut out = [UNTOUCHED; 65];
         let (block, enciphered) = (slice(block), slice(enciphered));
         let reply = answer(usual(), false, false, &command, &block, &enciphered, &mut out);
-        assert_eq!(reply, Reply { number: 15, written: 8 });
+        assert_eq!(reply, at(135, 0, 15, 8));
         assert_eq!(&out[..8], b"HDR1BL15");
     }
 }

@@ -4,56 +4,9 @@
 mod common;
 
 use common::command::{answered, answered_with, Command, P2, P9};
-use common::{bytes, done, refused, ACCOUNT, CLEAN_03, RUBBISH_03, SHORT_03, TABLE, UNTOUCHED};
-use reference::{answer, ask, usual, Reply, Settings};
-
-const HEADER: usize = 0;
-const CODE: usize = 1;
-const PIN_KEY: usize = 2;
-const PVK: usize = 3;
-const MAXIMUM: usize = 4;
-const PIN_BLOCK: usize = 5;
-const FORMAT: usize = 6;
-const CHECK: usize = 7;
-const ACCOUNT_FIELD: usize = 8;
-const TABLE_FIELD: usize = 9;
-const VALIDATION: usize = 10;
-const OFFSET: usize = 11;
-const OPTIONS: usize = 12;
-
-/// The codes, with those of their responses.
-const CODES: [(&[u8], &[u8]); 2] = [(b"DA", b"DB"), (b"EA", b"EB")];
-
-/// P2 and P9: PIN 34567, natural 95320, check length 4, offset 9247.
-fn of_the_paper(code: &[u8]) -> Command {
-    let key = [b"U".to_vec(), vec![b'0'; 32]].concat();
-    let fields = vec![
-        b"HDR1".to_vec(),
-        code.to_vec(),
-        key.clone(),
-        key,
-        b"12".to_vec(),
-        vec![b'0'; 16],
-        b"01".to_vec(),
-        b"04".to_vec(),
-        ACCOUNT.to_vec(),
-        TABLE.to_vec(),
-        b"0123456789AN".to_vec(),
-        b"9247FFFFFFFF".to_vec(),
-        vec![],
-    ];
-    Command { fields }
-}
-
-/// With two key blocks of 16 characters, LMK id 03.
-fn with_key_blocks(code: &[u8]) -> Command {
-    of_the_paper(code).with(PIN_KEY, b"S10016P0TB00N0003").with(PVK, b"S00016V1TN00N0003")
-}
-
-/// Both commands, where they are alike.
-fn both() -> [Command; 2] {
-    CODES.map(|(code, _)| of_the_paper(code))
-}
+use common::verification::*;
+use common::{at, bytes, done, refused, CLEAN_03, RUBBISH_03, SHORT_03, UNTOUCHED};
+use reference::{answer, ask, usual, Settings};
 
 fn restricted() -> Settings {
     Settings { restricted: true, ..usual() }
@@ -92,7 +45,7 @@ fn a_pin_that_does_not_verify() {
         for options in [&b""[..], b"\x19end", b"%09\x19end"] {
             let command = of_the_paper(code).with(OFFSET, b"9248FFFFFFFF").with(OPTIONS, options);
             let (reply, response) = command.answered(usual());
-            assert_eq!(reply, Reply { number: 1, written: 8 });
+            assert_eq!(reply, at(0, 0, 1, 8));
             assert_eq!(response, [b"HDR1", response_code, b"01"].concat());
         }
     }
@@ -284,7 +237,7 @@ fn the_maximum_length() {
             let fields = command.fields[..MAXIMUM].concat();
             let cut = [&fields[..], maximum].concat();
             let (reply, _) = answered(usual(), [true, true], &cut, &bytes(P2));
-            assert_eq!(reply, Reply { number: 15, written: 8 });
+            assert_eq!(reply, at(72, 3, 15, 8));
         }
         // it is judged before the fields behind it
         let command = command.with(MAXIMUM, b"11").with(FORMAT, b"02");
@@ -427,7 +380,7 @@ fn other_codes() {
         [(b"DB", b"DC"), (b"DC", b"DD"), (b"EC", b"ED"), (b"da", b"db"), (b"AD", b"AE")]
     {
         let (reply, response) = of_the_paper(code).answered(usual());
-        assert_eq!(reply, Reply { number: 68, written: 8 });
+        assert_eq!(reply, at(0, 0, 68, 8));
         assert_eq!(response, [b"HDR1", &response_code[..], b"68"].concat());
     }
 }

@@ -14,6 +14,8 @@ pub struct FaceSettings {
 pub struct FaceReply {
     number: u32,
     written: u32,
+    place: u32,
+    field: u32,
 }
 
 impl FaceSettings {
@@ -24,7 +26,8 @@ impl FaceSettings {
 
 impl FaceReply {
     fn of(reply: Reply) -> FaceReply {
-        FaceReply { number: reply.number, written: reply.written }
+        let Reply { number, written, place, field } = reply;
+        FaceReply { number, written, place, field }
     }
 }
 

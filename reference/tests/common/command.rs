@@ -26,12 +26,24 @@ impl Command {
 
     /// Both calls on this command; they must agree as long as the fields decide.
     pub fn number(&self) -> u32 {
-        let (reply, _) = self.answered(Settings::usual());
+        self.told(Settings::usual()).0
+    }
+
+    /// The number, and where it points: place and field. Both calls must tell the same, and the
+    /// host is told the number alone.
+    pub fn told(&self, settings: Settings) -> (u32, u32, u32) {
+        let settings = Settings { header: self.fields[0].len(), ..settings };
+        let (reply, response) = self.answered(settings);
         let mut out = [UNTOUCHED; 8];
-        let asked = ask(Settings::usual(), &self.bytes(), &mut out);
-        assert_eq!(asked.number, reply.number);
+        let asked = ask(settings, &self.bytes(), &mut out);
+        assert_eq!(asked, Reply { written: asked.written, ..reply });
         assert_eq!(out == [UNTOUCHED; 8], asked.number != 0);
-        reply.number
+        if reply.number != 0 {
+            let response_code = [self.fields[1][0], self.fields[1][1] + 1];
+            let number = format!("{:02}", reply.number).into_bytes();
+            assert_eq!(response, [&self.fields[0][..], &response_code, &number].concat());
+        }
+        (reply.number, reply.place, reply.field)
     }
 
     pub fn answered(&self, settings: Settings) -> (Reply, Vec<u8>) {

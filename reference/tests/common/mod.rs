@@ -1,8 +1,10 @@
 //! What the tests share.
 #![allow(dead_code)] // each test file uses its own part
 
+pub mod bk;
 pub mod command;
 pub mod format_03;
+pub mod verification;
 pub mod walk;
 
 use reference::Reply;
@@ -33,10 +35,17 @@ pub fn digits(text: &str) -> Vec<u8> {
     text.bytes().map(|character| character - b'0').collect()
 }
 
-pub fn done(written: u32) -> Reply {
-    Reply { number: 0, written }
+/// A reply with all its members.
+pub fn at(place: u32, field: u32, number: u32, written: u32) -> Reply {
+    Reply { number, written, place, field }
 }
 
+/// A reply that points nowhere.
+pub fn done(written: u32) -> Reply {
+    at(0, 0, 0, written)
+}
+
+/// The same of a refusal that writes nothing.
 pub fn refused(number: u32) -> Reply {
-    Reply { number, written: 0 }
+    at(0, 0, number, 0)
 }

@@ -1,6 +1,7 @@
 //! Command cases looked at from outside, by a walk that knows nothing of the program's own.
 
 use reference::cases::case::{Call, Case};
+use reference::Reply;
 use std::collections::BTreeSet;
 use std::fmt::Debug;
 use std::ops::RangeInclusive;
@@ -21,6 +22,9 @@ pub struct Seen {
     pub runs: Vec<Vec<u8>>,
     pub lent: usize,
     pub number: u32,
+    /// Where the reply points.
+    pub place: u32,
+    pub field: u32,
     pub walked: Option<Walked>,
 }
 
@@ -51,10 +55,11 @@ pub struct Weak {
 }
 
 pub fn seen(form: Form, case: Case) -> Seen {
-    let number = case.answer().reply.number;
+    let Reply { number, place, field, .. } = case.answer().reply;
     let walked = walk(form, case.numbers[0] as usize, &case.runs[0]);
-    let lent = case.out.expect("both calls are lent output").len();
-    Seen { call: case.call, numbers: case.numbers, runs: case.runs, lent, number, walked }
+    let lent = case.out.as_ref().expect("both calls are lent output").len();
+    let Case { call, numbers, runs, .. } = case;
+    Seen { call, numbers, runs, lent, number, place, field, walked }
 }
 
 /// Takes characters off the front.
@@ -142,17 +147,23 @@ impl Seen {
         self.runs[0].get(header..header.checked_add(2)?)
     }
 
-    /// The asking and the answering call judge frame and fields alike; only behind the fields the
-    /// answering call goes on by itself, to one of these numbers.
-    pub fn assert_asking_agrees(&self, of_answering: &[u32]) {
+    /// What the asking call replies to a command under the case's settings.
+    pub fn asked(&self, command: &[u8]) -> Reply {
         let [header, restricted, variable] = [0, 1, 2].map(|place| self.numbers[place]);
         let settings =
             reference::Settings::of_face(header as usize, restricted as u8, variable as u8);
-        let asked = reference::ask(settings, &self.runs[0], &mut [0; 8]).number;
-        if asked == 0 {
+        reference::ask(settings, command, &mut [0; 8])
+    }
+
+    /// The asking and the answering call judge frame and fields alike, and point at the same; only
+    /// behind the fields the answering call goes on by itself, to one of these numbers.
+    pub fn assert_asking_agrees(&self, of_answering: &[u32]) {
+        let asked = self.asked(&self.runs[0]);
+        if asked.number == 0 {
             assert!(of_answering.contains(&self.number), "{}", self.number);
         } else {
-            assert_eq!(asked, self.number);
+            let Seen { number, place, field, .. } = *self;
+            assert_eq!(asked, Reply { number, written: 0, place, field });
         }
     }
 }
