@@ -16,7 +16,7 @@ fn made(part: Part, name: &str, seed: u64) -> (Tally, Vec<u8>) {
 
 fn assert_whole_file(part: Part, name: &str, successes: u64, numbers: &[u32]) {
     let (tally, content) = made(part, name, 7);
-    assert_eq!(&content[..8], b"QGCASES1");
+    assert_eq!(&content[..8], b"QGCASES2");
     let trailer = &content[content.len() - 9..];
     assert_eq!(trailer[0], 0);
     assert_eq!(trailer[1..], COUNT.to_le_bytes());

@@ -1,16 +1,17 @@
 //! The case file itself; all integers are little-endian.
 //!
-//! It opens with the eight bytes `QGCASES1`. Each case is: the call's code (u8); n (u8) and n
+//! It opens with the eight bytes `QGCASES2`. Each case is: the call's code (u8); n (u8) and n
 //! numbers (u64); r (u8) and r runs (u32 length, bytes); 1 or 0 for lent output or none (u8) and,
-//! where there is some, its length (u32) and its bytes before the call; the expected number
-//! (u32) and written count (u32); where output was lent, its bytes after the call. The file
-//! closes with a call code of 0 and the number of cases (u64).
+//! where there is some, its length (u32) and its bytes before the call; the expected number,
+//! written count, place and field (u32 each); where output was lent, its bytes after the call. The
+//! file closes with a call code of 0 and the number of cases (u64).
 
 use super::case::{Answer, Case};
+use crate::reply::Reply;
 use std::fs::File;
 use std::io::{self, BufWriter, Write};
 
-const OPENING: &[u8; 8] = b"QGCASES1";
+const OPENING: &[u8; 8] = b"QGCASES2";
 
 pub struct CaseFile {
     file: BufWriter<File>,
@@ -37,8 +38,10 @@ impl CaseFile {
         if let Some(before) = &case.out {
             self.add_run(before)?;
         }
-        self.file.write_all(&answer.reply.number.to_le_bytes())?;
-        self.file.write_all(&answer.reply.written.to_le_bytes())?;
+        let Reply { number, written, place, field } = answer.reply;
+        for member in [number, written, place, field] {
+            self.file.write_all(&member.to_le_bytes())?;
+        }
         self.file.write_all(&answer.out)?;
         self.cases += 1;
         Ok(())
