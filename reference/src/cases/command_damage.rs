@@ -209,10 +209,10 @@ impl Draft {
         self.pin_key = keys::whole(dice, b"FFF", Place::pin_key(self.command), pin_key);
         self.pvk = keys::whole(dice, b"FFF", Place::pvk(self.command), pvk);
         self.lmk = vec![LMK_MARK, b'0', b'0' + own];
-        if pin_key != pvk && dice.chance(40) {
+        // The last id that is present stands in the PVK where the LMK field has none.
+        if pin_key != pvk && dice.chance(50) {
             self.lmk.clear();
-        }
-        if self.command.purpose == Purpose::VerifyOffset {
+        } else if self.command.purpose == Purpose::VerifyOffset {
             self.put_hex_key_beside_key_block(dice);
         }
     }
@@ -229,8 +229,12 @@ impl Draft {
         }
     }
 
-    /// Something behind the last field, or the optional fields in another order.
+    /// Something behind the last field, or the optional fields in another order. Now and then the
+    /// ids disagree besides: they are judged behind it.
     fn leave_over(&mut self, dice: &mut Dice) {
+        if dice.chance(20) {
+            self.disagree(dice);
+        }
         match dice.below(3) {
             0 => {
                 let count = dice.between(1, 3);
