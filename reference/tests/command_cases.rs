@@ -7,7 +7,8 @@ use common::format_03::Rubbish;
 use common::walk::{self, assert_holds, every, set, walked_set, with_number, Form, Seen, Weak};
 use reference::cases::case::Call;
 use reference::cases::dice::Dice;
-use reference::cases::tally::Tally;
+use reference::cases::pointed::Pointed;
+use reference::cases::tally::{Counted, Subject, Tally};
 use reference::cases::{command_bytes, commands, scarce, Part};
 use std::collections::BTreeSet;
 use std::sync::OnceLock;
@@ -285,16 +286,34 @@ fn scarce_answers_are_a_fault() {
     let demand = commands::demand();
     let many = demand.many;
     assert_eq!(many, 500_000);
-    assert_eq!(scarce(Part::Commands, many, &Tally::default()).len(), 11 + 17);
+    // the numbers of either call, and what it can point at
+    let due = 11 + 17 + (12 + 2 + 1) + (12 + 2 + 2);
+    assert_eq!(scarce(Part::Commands, many, &Tally::default()).len(), due);
     assert!(scarce(Part::Commands, many - 1, &Tally::default()).is_empty());
+    let of_bk = |call, pointed| (Subject { call, code: Some(*b"BK") }, Counted::Pointed(pointed));
+    let scarce_ones = [
+        (Call::Answer.into(), Counted::Number(86)),
+        of_bk(Call::Ask, Pointed::Ids(3)),
+        of_bk(Call::Ask, Pointed::Ids(11)),
+        of_bk(Call::Answer, Pointed::Field(12)),
+        of_bk(Call::Answer, Pointed::Slices),
+    ];
     let mut tally = Tally::default();
     for due in &demand.dues {
-        assert_eq!(due.times, 500);
-        let missing = u64::from((due.subject, due.number) == (Call::Answer.into(), 86));
-        (missing..due.times).for_each(|_| tally.count(due.subject, due.number));
+        let is_number = matches!(due.counted, Counted::Number(_));
+        assert_eq!(due.times, if is_number { 500 } else { 200 });
+        let missing = u64::from(scarce_ones.contains(&(due.subject, due.counted)));
+        (missing..due.times).for_each(|_| tally.count(due.subject, due.counted));
     }
     let lines = scarce(Part::Commands, many, &tally);
-    assert_eq!(lines, ["answer answers 86 499 times, not 500"]);
-    tally.count(Call::Answer, 86);
+    let wanted = [
+        "answer answers 86 499 times, not 500",
+        "ask BK points at ids, field 3 199 times, not 200",
+        "ask BK points at ids, field 11 199 times, not 200",
+        "answer BK points at field 12 199 times, not 200",
+        "answer BK points at slices 199 times, not 200",
+    ];
+    assert_eq!(lines, wanted);
+    scarce_ones.into_iter().for_each(|(subject, counted)| tally.count(subject, counted));
     assert!(scarce(Part::Commands, many, &tally).is_empty());
 }

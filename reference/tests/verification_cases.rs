@@ -7,7 +7,8 @@ use common::format_03::Rubbish;
 use common::walk::{self, assert_holds, every, set, walked_set, with_number, Form, Seen, Walked};
 use reference::cases::case::{Call, Case};
 use reference::cases::dice::Dice;
-use reference::cases::tally::{Subject, Tally};
+use reference::cases::pointed::Pointed;
+use reference::cases::tally::{Counted, Subject, Tally};
 use reference::cases::{scarce, verifications, Part};
 use std::collections::BTreeSet;
 use std::sync::OnceLock;
@@ -333,18 +334,33 @@ fn scarce_answers_are_a_fault() {
     let many = demand.many;
     assert_eq!(many, 300_000);
     assert!(scarce(Part::Verifications, many - 1, &Tally::default()).is_empty());
-    assert_eq!(scarce(Part::Verifications, many, &Tally::default()).len(), 2 * (10 + 16));
-    let verdict = |code| (Subject { call: Call::Answer, code: Some(code) }, 1);
+    // the numbers of either call to either command, and what it can point at
+    let due = 2 * (10 + 16 + (12 + 2 + 1) + (12 + 2 + 2));
+    assert_eq!(scarce(Part::Verifications, many, &Tally::default()).len(), due);
+    let answered = |code| Subject { call: Call::Answer, code: Some(code) };
+    let scarce_ones = [
+        (answered(*b"DA"), Counted::Pointed(Pointed::Ids(2))),
+        (answered(*b"EA"), Counted::Number(1)),
+        (answered(*b"EA"), Counted::Pointed(Pointed::Leftovers)),
+    ];
     let mut tally = Tally::default();
     for due in &demand.dues {
-        let is_verdict = due.subject.call == Call::Answer && due.number < 2;
-        assert_eq!(due.times, if is_verdict { 5000 } else { 500 });
-        let missing = u64::from((due.subject, due.number) == verdict(*b"EA"));
-        (missing..due.times).for_each(|_| tally.count(due.subject, due.number));
+        let times = match due.counted {
+            Counted::Number(0 | 1) if due.subject.call == Call::Answer => 5000,
+            Counted::Number(_) => 500,
+            Counted::Pointed(_) => 200,
+        };
+        assert_eq!(due.times, times);
+        let missing = u64::from(scarce_ones.contains(&(due.subject, due.counted)));
+        (missing..due.times).for_each(|_| tally.count(due.subject, due.counted));
     }
     let lines = scarce(Part::Verifications, many, &tally);
-    assert_eq!(lines, ["answer EA answers 01 4999 times, not 5000"]);
-    let (subject, number) = verdict(*b"EA");
-    tally.count(subject, number);
+    let wanted = [
+        "answer DA points at ids, field 2 199 times, not 200",
+        "answer EA answers 01 4999 times, not 5000",
+        "answer EA points at leftovers 199 times, not 200",
+    ];
+    assert_eq!(lines, wanted);
+    scarce_ones.into_iter().for_each(|(subject, counted)| tally.count(subject, counted));
     assert!(scarce(Part::Verifications, many, &tally).is_empty());
 }

@@ -1,6 +1,6 @@
 //! One case: a call of the C face with everything it is given, and its answer.
 
-use crate::command::{Command, Purpose};
+use crate::command::{Command, Purpose, CODE};
 use crate::reply::{Refusal, Reply};
 use crate::settings::Settings;
 
@@ -225,6 +225,12 @@ impl Case {
     fn ask_usual(&self) -> Reply {
         assert_eq!(crate::usual(), self.settings());
         Reply::done(0)
+    }
+
+    /// The code that a command carries behind its header, if it has so many bytes.
+    pub fn code(&self) -> Option<[u8; CODE]> {
+        let header = usize::try_from(self.numbers[0]).ok()?;
+        self.run(0).get(header..)?.first_chunk().copied()
     }
 
     fn run(&self, index: usize) -> &[u8] {

@@ -11,7 +11,9 @@ use crate::settings::Settings;
 pub const CALLS: [Call; 2] = [Call::Ask, Call::Answer];
 
 pub fn demand() -> Demand {
-    Demand { many: 500_000, dues: demand::of_command(&CALLS, &BK, None, 500) }
+    let mut dues = demand::of_command(&CALLS, &BK, None, 500);
+    dues.extend(demand::of_points(&CALLS, &BK, 200));
+    Demand { many: 500_000, dues }
 }
 
 /// The first case of a file asks for the usual settings: that call takes nothing, so that once is

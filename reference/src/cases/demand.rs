@@ -1,13 +1,14 @@
 //! What a file of many cases must hold.
 
 use super::case::Call;
-use super::tally::{Subject, Tally};
+use super::pointed::Pointed;
+use super::tally::{Counted, Subject, Tally};
 use crate::command::{Command, CODE};
 
 /// An answer, and how often a file must hold it at least.
 pub struct Due {
     pub subject: Subject,
-    pub number: u32,
+    pub counted: Counted,
     pub times: u64,
 }
 
@@ -19,7 +20,7 @@ pub struct Demand {
 
 /// Each number that the calls can answer, equally often.
 pub fn of_calls(calls: &[Call], times: u64) -> Vec<Due> {
-    dues(calls, None, times, |call| call.answers().to_vec())
+    dues(calls, None, times, |call| numbers(call.answers()))
 }
 
 /// Each number that the calls can answer to one command, equally often; counted apart from those
@@ -30,28 +31,39 @@ pub fn of_command(
     code: Option<[u8; CODE]>,
     times: u64,
 ) -> Vec<Due> {
-    dues(calls, code, times, |call| call.answers_to(command))
+    dues(calls, code, times, |call| numbers(&call.answers_to(command)))
+}
+
+/// All that the calls' replies to one command can point at, equally often; always counted apart
+/// from other commands, whose fields are others.
+pub fn of_points(calls: &[Call], command: &Command, times: u64) -> Vec<Due> {
+    let pointed = |call| Pointed::all(call, command).into_iter().map(Counted::Pointed).collect();
+    dues(calls, Some(command.code), times, pointed)
+}
+
+fn numbers(answers: &[u32]) -> Vec<Counted> {
+    answers.iter().copied().map(Counted::Number).collect()
 }
 
 fn dues(
     calls: &[Call],
     code: Option<[u8; CODE]>,
     times: u64,
-    numbers: impl Fn(Call) -> Vec<u32>,
+    of_call: impl Fn(Call) -> Vec<Counted>,
 ) -> Vec<Due> {
-    let of_call = |&call: &Call| {
+    let dues = |&call: &Call| {
         let subject = Subject { call, code };
-        numbers(call).into_iter().map(move |number| Due { subject, number, times })
+        of_call(call).into_iter().map(move |counted| Due { subject, counted, times })
     };
-    calls.iter().flat_map(of_call).collect()
+    calls.iter().flat_map(dues).collect()
 }
 
 impl Due {
     /// What the tally lacks, in a line.
     fn lack(&self, tally: &Tally) -> Option<String> {
-        let Due { subject, number, times } = self;
-        let met = tally.of_subject_and_number(*subject, *number);
-        (met < *times).then(|| format!("{subject} answers {number:02} {met} times, not {times}"))
+        let Due { subject, counted, times } = self;
+        let met = tally.met(*subject, *counted);
+        (met < *times).then(|| format!("{subject} {counted} {met} times, not {times}"))
     }
 }
 

@@ -13,6 +13,7 @@ pub mod keys;
 pub mod mutation;
 pub mod offsets;
 pub mod parts;
+pub mod pointed;
 pub mod presented;
 pub mod soak;
 pub mod tally;
@@ -21,12 +22,14 @@ pub mod verification_damage;
 pub mod verifications;
 pub mod weak;
 
+use crate::reply::Reply;
 use case::Case;
 use demand::Demand;
 use dice::Dice;
 use file::CaseFile;
+use pointed::Pointed;
 use std::io;
-use tally::{Subject, Tally};
+use tally::{Counted, Subject, Tally};
 
 /// The parts of the box that a case file may speak of.
 #[derive(Clone, Copy, Debug, PartialEq, Eq)]
@@ -98,11 +101,20 @@ fn write(part: Part, path: &str, seed: u64, count: u64) -> io::Result<Tally> {
     for index in 0..count {
         let case = part.case(&mut dice, index);
         let answer = case.answer();
-        tally.count(part.subject(index, &case), answer.reply.number);
+        tally.count(part.subject(index, &case), Counted::Number(answer.reply.number));
+        count_pointed(&mut tally, &case, answer.reply);
         file.add(&case, &answer)?;
     }
     file.finish()?;
     Ok(tally)
+}
+
+/// What a reply points at counts for the command whose code the case carries: the fields are its.
+fn count_pointed(tally: &mut Tally, case: &Case, reply: Reply) {
+    if let Some((code, pointed)) = Pointed::of(case, reply) {
+        let subject = Subject { call: case.call, code: Some(code) };
+        tally.count(subject, Counted::Pointed(pointed));
+    }
 }
 
 /// What the tally of a file of many cases lacks, a line for each answer.

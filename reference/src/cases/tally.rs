@@ -1,6 +1,7 @@
-//! How often each call answered each number.
+//! How often each call answered each number, and what its replies to commands pointed at.
 
 use super::case::Call;
+use super::pointed::Pointed;
 use crate::command::CODE;
 use std::collections::BTreeMap;
 use std::fmt;
@@ -25,33 +26,62 @@ impl fmt::Display for Subject {
     }
 }
 
+/// What is counted of an answer: its number and, where it points into a command, at what.
+#[derive(Clone, Copy, Debug, PartialEq, Eq, PartialOrd, Ord)]
+pub enum Counted {
+    Number(u32),
+    Pointed(Pointed),
+}
+
+impl fmt::Display for Counted {
+    fn fmt(&self, text: &mut fmt::Formatter<'_>) -> fmt::Result {
+        match self {
+            Counted::Number(number) => write!(text, "answers {number:02}"),
+            Counted::Pointed(pointed) => write!(text, "points at {pointed}"),
+        }
+    }
+}
+
 #[derive(Default)]
 pub struct Tally {
-    counts: BTreeMap<(Subject, u32), u64>,
+    counts: BTreeMap<(Subject, Counted), u64>,
 }
 
 impl Tally {
-    pub fn count(&mut self, subject: impl Into<Subject>, number: u32) {
-        *self.counts.entry((subject.into(), number)).or_insert(0) += 1;
+    pub fn count(&mut self, subject: impl Into<Subject>, counted: Counted) {
+        *self.counts.entry((subject.into(), counted)).or_insert(0) += 1;
     }
 
+    /// Every case has one number.
     pub fn total(&self) -> u64 {
-        self.counts.values().sum()
+        self.sum(|counted| matches!(counted, Counted::Number(_)))
     }
 
     pub fn of_number(&self, number: u32) -> u64 {
-        self.counts.iter().filter(|((_, seen), _)| *seen == number).map(|(_, count)| count).sum()
+        self.sum(|counted| counted == Counted::Number(number))
     }
 
-    pub fn of_subject_and_number(&self, subject: impl Into<Subject>, number: u32) -> u64 {
-        self.counts.get(&(subject.into(), number)).copied().unwrap_or(0)
+    pub fn met(&self, subject: impl Into<Subject>, counted: Counted) -> u64 {
+        self.counts.get(&(subject.into(), counted)).copied().unwrap_or(0)
+    }
+
+    fn sum(&self, wanted: impl Fn(Counted) -> bool) -> u64 {
+        let wanted = self.counts.iter().filter(|((_, counted), _)| wanted(*counted));
+        wanted.map(|(_, count)| count).sum()
     }
 }
 
 impl fmt::Display for Tally {
     fn fmt(&self, text: &mut fmt::Formatter<'_>) -> fmt::Result {
-        for ((subject, number), count) in &self.counts {
-            writeln!(text, "{subject:<18} {number:>03} {count:>9}")?;
+        for ((subject, counted), count) in &self.counts {
+            match counted {
+                Counted::Number(number) => {
+                    writeln!(text, "{subject:<18} {number:>03} {count:>9}")?;
+                }
+                Counted::Pointed(pointed) => {
+                    writeln!(text, "{subject:<18} at {pointed:<13} {count:>9}")?;
+                }
+            }
         }
         let done = self.of_number(0);
         let share = 100 * done / self.total().max(1);

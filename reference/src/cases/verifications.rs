@@ -5,20 +5,23 @@ use super::commands::{self, CALLS};
 use super::demand::{self, Demand};
 use super::dice::Dice;
 use super::draft::Draft;
-use super::tally::Subject;
-use crate::command::{Command, BK, CODE, DA, EA};
+use super::tally::{Counted, Subject};
+use crate::command::{Command, BK, DA, EA};
 use crate::reply::Reply;
 
 pub static COMMANDS: [&Command; 2] = [&DA, &EA];
 
-/// Each number of each call, for each of the commands apart; verdicts far more often.
+/// Each number of each call and all that it can point at, for each of the commands apart; verdicts
+/// far more often.
 pub fn demand() -> Demand {
     let mut dues = vec![];
     for command in COMMANDS {
         dues.extend(demand::of_command(&CALLS, command, Some(command.code), 500));
+        dues.extend(demand::of_points(&CALLS, command, 200));
     }
+    let verdicts = [0, Reply::DOES_NOT_VERIFY].map(Counted::Number);
     for due in &mut dues {
-        if due.subject.call == Call::Answer && [0, Reply::DOES_NOT_VERIFY].contains(&due.number) {
+        if due.subject.call == Call::Answer && verdicts.contains(&due.counted) {
             due.times = 5000;
         }
     }
@@ -38,14 +41,9 @@ fn meant(index: u64) -> &'static Command {
 /// A case counts for the command whose code it carries; where that is neither of the two or
 /// cannot be told, for the one that was meant.
 pub fn subject(index: u64, case: &Case) -> Subject {
-    let carried = carried_code(case);
-    let command = COMMANDS.into_iter().find(|command| carried == Some(&command.code[..]));
+    let carried = case.code();
+    let command = COMMANDS.into_iter().find(|command| carried == Some(command.code));
     Subject { call: case.call, code: Some(command.unwrap_or(meant(index)).code) }
-}
-
-fn carried_code(case: &Case) -> Option<&[u8]> {
-    let header = usize::try_from(case.numbers[0]).ok()?;
-    case.runs[0].get(header..header.checked_add(CODE)?)
 }
 
 /// A PIN that does not verify is no damage to its command, so that a quarter of the offsets are
