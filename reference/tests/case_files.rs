@@ -1,6 +1,7 @@
 //! The case files: their shape, their repeatability, and what they hold.
 
-use reference::cases::{make, tally::Tally, Part};
+use reference::cases::dice::Dice;
+use reference::cases::{commands, make, tally::Tally, Part};
 use std::fs;
 
 const COUNT: u64 = 40_000;
@@ -57,4 +58,62 @@ fn verification_cases() {
 #[test]
 fn soak_cases() {
     assert_whole_file(Part::Soak, "soak", 20, &[1, 15, 20, 23, 24, 25, 69, 81, 901, 902]);
+}
+
+/// Takes bytes off the front of a file.
+struct Reader<'a> {
+    rest: &'a [u8],
+}
+
+impl<'a> Reader<'a> {
+    fn take(&mut self, count: usize) -> &'a [u8] {
+        let (taken, rest) = self.rest.split_at(count);
+        self.rest = rest;
+        taken
+    }
+
+    fn byte(&mut self) -> usize {
+        usize::from(self.take(1)[0])
+    }
+
+    fn word(&mut self) -> u32 {
+        u32::from_le_bytes(self.take(4).try_into().expect("four bytes"))
+    }
+
+    fn run(&mut self) -> &'a [u8] {
+        let length = self.word() as usize;
+        self.take(length)
+    }
+
+    /// Steps over what a call is given; how much output is lent, and the code.
+    fn call(&mut self) -> (usize, usize) {
+        let code = self.byte();
+        for _ in 0..self.byte() {
+            self.take(8);
+        }
+        for _ in 0..self.byte() {
+            self.run();
+        }
+        let lent = if self.byte() == 1 { self.run().len() } else { 0 };
+        (code, lent)
+    }
+}
+
+/// Behind what a call is given stand number, `written`, place and field, then the lent buffer: in
+/// every case, `usual` included.
+#[test]
+fn every_case_carries_its_whole_reply() {
+    let (_, content) = made(Part::Commands, "replies", 7);
+    let mut reader = Reader { rest: &content[8..] };
+    let mut dice = Dice::new(7);
+    for index in 0..COUNT {
+        let case = commands::case(&mut dice, index);
+        let answer = case.answer();
+        let (code, lent) = reader.call();
+        assert_eq!((code, lent), (usize::from(case.call.code()), answer.out.len()));
+        let [number, written, place, field] = [(); 4].map(|()| reader.word());
+        assert_eq!(reference::Reply { number, written, place, field }, answer.reply);
+        assert_eq!(reader.take(lent), answer.out);
+    }
+    assert_eq!(reader.rest.len(), 9);
 }
