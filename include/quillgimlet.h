@@ -100,6 +100,10 @@
  *
  * qg_answer writes a response for every number but 901 and 902: its refusals
  * are responses too, and so is a verdict 01. What it writes is listed with it.
+ *
+ * Of a command that is refused for one of its fields the reply also says which
+ * field that is and where it begins, so that a 15 need not be searched for. It
+ * is told under "Which character" below.
  */
 
 #ifndef QUILLGIMLET_H
@@ -140,10 +144,24 @@ typedef struct {
  *             wrote at the start of the lent output. It is 0 for every number
  *             but 00, and for every verdict call; of qg_answer it is the
  *             length of the response, and 0 for 901 and 902 alone.
+ *   place     of qg_ask and qg_answer: where in the command the fault is. It
+ *             is the position of a byte, counted from 0, the header counted
+ *             in; 0 where the reply points at nothing.
+ *   field     of qg_ask and qg_answer: the number of the field at fault, as the
+ *             table of the command counts it; 0 where there is none.
+ *
+ * What they point at is listed under "Which character" below. Both are 0 for 00
+ * and for every call below the command level, whatever its number.
+ *
+ * A reply has 16 bytes. Before it told place and field it had 8: a server that
+ * was compiled against that header must be compiled again, and needs no other
+ * change.
  */
 typedef struct {
 	uint32_t number;
 	uint32_t written;
+	uint32_t place;
+	uint32_t field;
 } qg_reply;
 
 /*
@@ -289,7 +307,64 @@ qg_settings qg_usual(void);
  *    the end      15   the LMK ids of fields 1, 2 and 11, as many as there
  *                      are, do not all agree
  *
- * With the usual settings, for the command
+ *
+ * Which character. A host hears the number alone, and 15 may be any field. The
+ * server hears in `place` and `field` where to look. Both calls tell it, and
+ * of the same fault the same:
+ *
+ *    number                        place                  field
+ *    03, 15, 23, 25, 26, 29, 69    where that field       its number
+ *       of a field                 begins
+ *    15 of something left over     its first byte         0
+ *    15 of ids that disagree       where the field with   its number
+ *                                  the last id begins
+ *    15 of pin_block_len or        command_len            0
+ *       enciphered_len
+ *    00, 01, 10, 11, 20, 24, 68,   0                      0
+ *       81, 86, 901, 902
+ *
+ * The numbers of the fields, and the character that each begins with:
+ *
+ *    field   of BK                       of DA and EA
+ *      1     key type      its first     PIN key       its letter
+ *      2     PIN key       its letter    PVK           its letter
+ *      3     PVK           its letter    maximum       its first
+ *      4     PIN block     its first     PIN block     its first
+ *      5     format        its first     format        its first
+ *      6     check         its first     check         its first
+ *      7     account       its first     account       its first
+ *      8     table         its first     table         its first
+ *      9     validation    its first     validation    its first
+ *     10     weak PINs     ';'           offset        its first
+ *     11     LMK id        '%'           LMK id        '%'
+ *     12     trailer       19 hex        trailer       19 hex
+ *
+ *   - It is where the field begins, and not the character that is wrong in it.
+ *     A field of which nothing came begins where the command ends: `place` is
+ *     command_len then.
+ *   - Left over is what is behind the last field that is there, and behind the
+ *     thirty-second character of a trailer. A wrong character among those 32 is
+ *     the trailer's.
+ *   - The last id is the rightmost that is there: the one behind '%', or else
+ *     that of the later key block. It is pointed at also where it agrees with
+ *     another. Where something is left over too, that decides.
+ *   - `place` is 0 only where there is nothing to point at. Where `field` is 0
+ *     and `place` is not, `place` is under command_len for something left over,
+ *     and it is command_len for a block that is not 8 bytes.
+ *
+ * They are for the server's log, and for the student who wrote the command:
+ *
+ *    if (reply.place != 0)
+ *        fprintf(log, "number %02u, field %u, from character %u on\n",
+ *            (unsigned)reply.number, (unsigned)reply.field,
+ *            (unsigned)reply.place);
+ *
+ * Never send them to the host: it hears the number and nothing more. No byte of
+ * a response comes of them. It is enough to look at what qg_answer tells, which
+ * is all that qg_ask tells and a block that is not 8 bytes.
+ *
+ *
+ * An exchange. With the usual settings, for the command
  *
  *    HDR1 BK 001
  *    U00000000000000000000000000000000
@@ -313,6 +388,16 @@ qg_settings qg_usual(void);
  * qg_ask writes the same block. With what the key box made above qg_answer
  * writes HDR1DB00. With the PIN block 05 34 16 8F FF ED CB A9, whose PIN is
  * another, it writes HDR1DB01.
+ *
+ * Where the fields of the two begin, 1 to 9 of the BK and 1 to 10 of the DA,
+ * and at the end of each row the length of the command:
+ *
+ *    BK   6    9   42   75   91   93   95  107  123         135
+ *    DA   6   39   72   74   90   92   94  106  122   134   146
+ *
+ * With check length 13 in place of 04 both calls refuse the BK with number 15,
+ * place 93, field 6, and the DA with number 15, place 92, field 6. With an 'X'
+ * behind its last field the BK is 15, place 135, field 0.
  */
 
 /*
@@ -330,12 +415,13 @@ qg_settings qg_usual(void);
  *         or a byte of the header is not printable
  *    68   the command code is none of BK, DA and EA
  *    15, 26, 29, 23, 69, 25, 03   the fields, judged as listed above; 03 is
- *         BK's alone
+ *         BK's alone. `place` and `field` point at the fault
  *    00   the block is in out
  *
  * On 00 it writes the 8 bytes of the block, and `written` is 8. All later
  * bytes of out keep their values. For any other number it writes nothing, and
- * `written` is 0: call qg_answer for the response to a refusal too.
+ * `written` is 0: call qg_answer for the response to a refusal too. For 901,
+ * 902, 68 and 00 `place` and `field` are 0.
  */
 qg_reply qg_ask(qg_settings settings,
 	const uint8_t *command, size_t command_len,
@@ -365,8 +451,10 @@ qg_reply qg_ask(qg_settings settings,
  *         or a byte of the header is not printable
  *    68   the command code is none of BK, DA and EA
  *    15, 26, 29, 23, 69, 25, 03   the fields, judged as listed above; 03 is
- *         BK's alone
- *    15   pin_block_len is not 8, or enciphered_len is not 8
+ *         BK's alone. `place` and `field` point at the fault, as those of
+ *         qg_ask do
+ *    15   pin_block_len is not 8, or enciphered_len is not 8. `place` is
+ *         command_len, and `field` 0
  *    10   pin_key_parity_good is 0
  *    11   pvk_parity_good is 0
  *    20, 24, 20   the PIN block, judged in the command's format and with its
@@ -405,6 +493,9 @@ qg_reply qg_ask(qg_settings settings,
  * The response code is the command code with its second byte raised by one,
  * 255 becoming 0: BL for BK, DB for DA, EB for EA. Beside 68 it is that of the
  * code that came. BK never answers 01, and DA and EA never answer 03 or 86.
+ *
+ * For 00, 01, 10, 11, 20, 24, 68, 81, 86, 901 and 902 `place` and `field` are 0.
+ * Nothing in what is written depends on them.
  */
 qg_reply qg_answer(qg_settings settings,
 	uint8_t pin_key_parity_good, uint8_t pvk_parity_good,
