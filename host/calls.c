@@ -2,7 +2,7 @@
 
 /* The archive is built for this layout: one eightbyte, then the two flags. */
 _Static_assert(sizeof(qg_settings) == 16, "settings cross as 16 bytes");
-_Static_assert(sizeof(qg_reply) == 8, "a reply crosses as 8 bytes");
+_Static_assert(sizeof(qg_reply) == 16, "a reply crosses as 16 bytes");
 
 /* A run as the C face takes it. */
 #define RUN(run) (run).at, (run).len
@@ -129,7 +129,7 @@ static qg_reply make_usual(const struct call_args *args)
 	qg_settings expected = settings_of(args->numbers), got = qg_usual();
 	bool same = got.header == expected.header &&
 		got.restricted == expected.restricted && got.variable == expected.variable;
-	qg_reply reply = { .number = same ? 0 : 1, .written = 0 };
+	qg_reply reply = { .number = same ? 0 : 1 };
 
 	return reply;
 }

@@ -13,7 +13,10 @@
 /* A few of the longest cases, and thousands of the usual ones. */
 #define WINDOW (4 * CASE_MOST)
 
-static const char mark[8] = { 'Q', 'G', 'C', 'A', 'S', 'E', 'S', '1' };
+/* What a file begins with, today's and the older one's. */
+#define MARK 8
+static const char mark[] = "QGCASES2";
+static const char older_mark[] = "QGCASES1";
 
 /* The first fault is the one that is told. */
 static bool refuse(struct case_file *file, const char *fault)
@@ -123,9 +126,17 @@ static bool take_output(struct case_file *file, struct call_case *one)
 	return !one->has_out || take_run(file, &one->before);
 }
 
+static bool take_pointed(struct case_file *file, struct call_case *one)
+{
+	one->points = file->points;
+	return !one->points ||
+		(take_u32(file, &one->place) && take_u32(file, &one->field));
+}
+
 static bool take_answer(struct case_file *file, struct call_case *one)
 {
 	return take_u32(file, &one->number) && take_u32(file, &one->written) &&
+		take_pointed(file, one) &&
 		(!one->has_out || take_bytes(file, one->before.len, &one->after));
 }
 
@@ -174,6 +185,18 @@ bool cases_next(struct case_file *file, struct call_case *one)
 	return true;
 }
 
+/* Reads the mark, which says whether the cases have place and field. */
+static bool take_mark(struct case_file *file)
+{
+	const uint8_t *begin = take(file, MARK);
+
+	file->points = begin != NULL && memcmp(begin, mark, MARK) == 0;
+	if (file->points || (begin != NULL && memcmp(begin, older_mark, MARK) == 0))
+		return true;
+	file->fault = "the file begins with neither QGCASES2 nor QGCASES1";
+	return false;
+}
+
 bool cases_open(struct case_file *file, const char *path)
 {
 	memset(file, 0, sizeof *file);
@@ -183,14 +206,7 @@ bool cases_open(struct case_file *file, const char *path)
 	file->bytes = malloc(WINDOW);
 	if (file->bytes == NULL)
 		return refuse(file, "there is no memory for the file");
-	if (!move_window(file))
-		return false;
-	const uint8_t *begin = take(file, sizeof mark);
-	if (begin == NULL || memcmp(begin, mark, sizeof mark) != 0) {
-		file->fault = "the file does not begin with QGCASES1";
-		return false;
-	}
-	return true;
+	return move_window(file) && take_mark(file);
 }
 
 void cases_close(struct case_file *file)

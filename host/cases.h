@@ -2,7 +2,7 @@
  * The reader of a case file: calls with their arguments and the answers that
  * they must get. Integers are little-endian.
  *
- *   header    8 bytes "QGCASES1"
+ *   header    8 bytes "QGCASES2"
  *   a case    u8   code of the call, not 0
  *             u8   n, then n times u64: the numbers in the order of the C
  *                  face, a settings struct as header, restricted, variable;
@@ -13,8 +13,14 @@
  *             with an output: u32 its length, and its bytes before the call
  *             u32  expected number
  *             u32  expected count of what is written
+ *             u32  expected place
+ *             u32  expected field
  *             with an output: its bytes after the call
  *   trailer   u8 0, then u64 the number of cases; nothing follows it
+ *
+ * A file that begins with "QGCASES1" is older: its cases have no place and no
+ * field, and all else is alike. It can be replayed still; what a reply has for
+ * place and field is held to nothing then.
  */
 #ifndef HOST_CASES_H
 #define HOST_CASES_H
@@ -44,6 +50,9 @@ struct call_case {
 	struct case_run after;
 	uint32_t number;
 	uint32_t written;
+	bool points;        /* the case has place and field, and they are held */
+	uint32_t place;
+	uint32_t field;
 };
 
 /* Of the file a window is in memory, which moves on from case to case: a file
@@ -54,6 +63,7 @@ struct case_file {
 	size_t len;         /* how much of it is filled */
 	size_t at;          /* how much of that is read */
 	bool ended;         /* nothing of the file stands behind the window */
+	bool points;        /* its cases have place and field */
 	uint64_t count;     /* cases read so far */
 	const char *fault;  /* what is wrong with the file, or NULL */
 };

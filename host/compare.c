@@ -1,10 +1,12 @@
 /*
  * compare FILE [EXPECTED]: replays a case file against the archive. Each case
  * is tried with its runs before a guard and again behind one; it passes where
- * both trials give the expected number, count and output and leave every other
- * byte alone. EXPECTED is the number of cases that the file must have. The last
- * line is 'compare: N passed, M failed'; a fault of the file, another number of
- * cases included, counts as one more that failed.
+ * both trials give the expected number, count, output, place and field and leave
+ * every other byte alone. EXPECTED is the number of cases that the file must
+ * have. Behind the cases it tells how often each call was to answer each number,
+ * and how often each command call was to point at each field, at a place in no
+ * field, and at nothing. The last line is 'compare: N passed, M failed'; a fault
+ * of the file, another number of cases included, counts as one more that failed.
  */
 #include <errno.h>
 #include <inttypes.h>
@@ -21,13 +23,23 @@
 /* The paper's numbers have at most three figures. */
 #define NUMBERS 1000
 
+/* A command has fewer fields. */
+#define FIELDS 100
+
 /* A call's code is a byte. */
 #define CODES 256
+
+/* What the cases of a call point at. */
+struct pointed {
+	uint64_t fields[FIELDS];  /* of 0: at a place, and in no field */
+	uint64_t nothing;
+};
 
 struct score {
 	uint64_t passed;
 	uint64_t failed;
 	uint64_t tally[CODES][NUMBERS];
+	struct pointed pointed[CODES];
 };
 
 static void show_bytes(const char *name, const uint8_t *bytes, size_t len)
@@ -48,17 +60,27 @@ static void show_arguments(const struct call *call, const struct call_case *one)
 		show_bytes("lent", one->before.bytes, one->before.len);
 }
 
+/* Of an older file place and field are not held, and not shown. */
+static void show_reply(const char *name, qg_reply reply, bool points)
+{
+	printf("  %-10s number %02" PRIu32 ", written %" PRIu32, name,
+		reply.number, reply.written);
+	if (points)
+		printf(", place %" PRIu32 ", field %" PRIu32, reply.place, reply.field);
+	putchar('\n');
+}
+
 static void show_answers(const struct call_case *one, const struct trial *trial)
 {
-	printf("  expected   number %02" PRIu32 ", written %" PRIu32 "\n",
-		one->number, one->written);
+	qg_reply expected = { one->number, one->written, one->place, one->field };
+
+	show_reply("expected", expected, one->points);
 	if (one->has_out)
 		show_bytes("expected", one->after.bytes, one->after.len);
 	if (trial->harm == HARM_STOPPED)
 		printf("  got        signal %d\n", trial->signal);
 	else
-		printf("  got        number %02" PRIu32 ", written %" PRIu32 "\n",
-			trial->reply.number, trial->reply.written);
+		show_reply("got", trial->reply, one->points);
 	if (one->has_out)
 		show_bytes("got", trial->out, one->before.len);
 }
@@ -73,6 +95,8 @@ static const char *harm_in_words(enum harm harm)
 	case HARM_NUMBER: return "another";
 	case HARM_WRITTEN: return "another count of";
 	case HARM_OUTPUT: return "other bytes in";
+	case HARM_PLACE: return "another";
+	case HARM_FIELD: return "another";
 	}
 	return "no harm";
 }
@@ -88,6 +112,19 @@ static void show_failure(uint64_t place, const struct call *call,
 	show_answers(one, trial);
 }
 
+static void tally(const struct call_case *one, struct score *score)
+{
+	struct pointed *pointed = &score->pointed[one->code];
+
+	score->tally[one->code][one->number]++;
+	if (!one->points)
+		return;
+	if (one->place == 0 && one->field == 0)
+		pointed->nothing++;
+	else
+		pointed->fields[one->field]++;
+}
+
 /* Tries a case both ways and scores it. */
 static void replay(uint64_t place, const struct call *call,
 	const struct call_case *one, struct score *score)
@@ -101,7 +138,7 @@ static void replay(uint64_t place, const struct call *call,
 		if (!passed && score->failed < SHOWN)
 			show_failure(place, call, one, sides[i], &trial);
 	}
-	score->tally[call->code][one->number]++;
+	tally(one, score);
 	if (passed)
 		score->passed++;
 	else
@@ -117,6 +154,8 @@ static const char *unfit(const struct call *call, const struct call_case *one)
 		return "the case has not what its call is handed";
 	if (one->number >= NUMBERS)
 		return "the paper has no number of four figures";
+	if (one->field >= FIELDS)
+		return "no command has a field of three figures";
 	return NULL;
 }
 
@@ -147,9 +186,33 @@ static void show_tally(const struct score *score)
 		}
 }
 
+/* A call whose cases all point at nothing is none of a command, and has no
+ * lines. */
+static void show_pointed_of(const char *name, const struct pointed *pointed)
+{
+	bool points = false;
+
+	for (unsigned field = 1; field < FIELDS; field++)
+		if (pointed->fields[field] > 0) {
+			printf("%s field %02u %" PRIu64 "\n", name, field, pointed->fields[field]);
+			points = true;
+		}
+	if (points || pointed->fields[0] > 0) {
+		printf("%s no field, a place %" PRIu64 "\n", name, pointed->fields[0]);
+		printf("%s nothing %" PRIu64 "\n", name, pointed->nothing);
+	}
+}
+
+static void show_pointed(const struct score *score)
+{
+	for (size_t i = 0; i < calls_len; i++)
+		show_pointed_of(calls[i].name, &score->pointed[calls[i].code]);
+}
+
 static int finish(const struct score *score)
 {
 	show_tally(score);
+	show_pointed(score);
 	printf("compare: %" PRIu64 " passed, %" PRIu64 " failed\n", score->passed,
 		score->failed);
 	return score->failed == 0 && score->passed > 0 ? 0 : 1;

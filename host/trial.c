@@ -129,6 +129,16 @@ static enum harm judge_rooms(const struct call *call,
 	return HARM_NONE;
 }
 
+/* Whether the reply points where the case says, if it says anything. */
+static enum harm judge_pointed(const struct call_case *one, struct trial *trial)
+{
+	if (one->points && trial->reply.place != one->place)
+		return found(trial, HARM_PLACE, "place");
+	if (one->points && trial->reply.field != one->field)
+		return found(trial, HARM_FIELD, "field");
+	return HARM_NONE;
+}
+
 /* Whether the answer and every byte of the lent output are the expected ones. */
 static enum harm judge_answer(const struct call_case *one,
 	const struct call_args *args, struct trial *trial)
@@ -139,7 +149,7 @@ static enum harm judge_answer(const struct call_case *one,
 		return found(trial, HARM_WRITTEN, "what is written");
 	if (!same(args->out.at, &one->after))
 		return found(trial, HARM_OUTPUT, "output");
-	return HARM_NONE;
+	return judge_pointed(one, trial);
 }
 
 static void take_back(const struct call_case *one, enum lent_side side)

@@ -16,6 +16,8 @@ enum harm {
 	HARM_NUMBER,   /* another number than expected */
 	HARM_WRITTEN,  /* another count of what is written */
 	HARM_OUTPUT,   /* a byte of the lent output is not the expected one */
+	HARM_PLACE,    /* another place in the command than expected */
+	HARM_FIELD,    /* another field of it */
 };
 
 struct trial {
