@@ -39,6 +39,12 @@ static bool is_meant(uint32_t number, uint32_t meant)
 	return meant == REFUSED ? number != 0 : number == meant;
 }
 
+static bool same_reply(qg_reply one, qg_reply other)
+{
+	return one.number == other.number && one.written == other.written &&
+		one.place == other.place && one.field == other.field;
+}
+
 bool answered_alike(enum call call, const struct load *load)
 {
 	const uint32_t meant = call == ASK ? load->asked : load->answered;
@@ -49,9 +55,9 @@ bool answered_alike(enum call call, const struct load *load)
 		qg_reply ours = make_call(OURS, call, load, command, out[OURS]);
 		qg_reply other = make_call(REFERENCE, call, load, command, out[REFERENCE]);
 
-		if (ours.number != other.number || ours.written != other.written)
+		if (!same_reply(ours, other) || !is_meant(ours.number, meant))
 			return false;
-		if (memcmp(out[OURS], out[REFERENCE], ROOM) != 0 || !is_meant(ours.number, meant))
+		if (memcmp(out[OURS], out[REFERENCE], ROOM) != 0)
 			return false;
 	}
 	return true;

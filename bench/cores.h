@@ -18,8 +18,8 @@ enum call { ASK, ANSWER, CALLS };
 qg_reply make_call(enum core core, enum call call, const struct load *load,
 	const struct command *command, uint8_t *out);
 
-/* Whether both cores answer each command of a load with the same number, count
- * and bytes, and with the number that the load says. */
+/* Whether both cores answer each command of a load with the same number, count,
+ * place, field and bytes, and with the number that the load says. */
 bool answered_alike(enum call call, const struct load *load);
 
 #endif
