@@ -5,6 +5,7 @@
  */
 #include "vectors.h"
 
+#include <stdbool.h>
 #include <stdio.h>
 #include <string.h>
 
@@ -58,23 +59,44 @@ static void show(const char *name, const uint8_t *bytes)
 	putchar('\n');
 }
 
-void hold(const char *deed, const char *source, qg_reply reply,
-	const uint8_t *out, uint32_t number, const uint8_t *bytes, size_t len)
+static void show_reply(const char *name, qg_reply reply)
 {
-	uint8_t expected[LENT];
+	printf("  %s number %02u, written %u, place %u, field %u\n", name,
+		(unsigned)reply.number, (unsigned)reply.written, (unsigned)reply.place,
+		(unsigned)reply.field);
+}
 
-	untouched(expected);
-	memcpy(expected, bytes, len);
-	if (reply.number == number && reply.written == len &&
-		memcmp(out, expected, LENT) == 0) {
+static bool same_reply(qg_reply one, qg_reply other)
+{
+	return one.number == other.number && one.written == other.written &&
+		one.place == other.place && one.field == other.field;
+}
+
+void hold_reply(const char *deed, const char *source, qg_reply reply,
+	const uint8_t *out, qg_reply expected, const uint8_t *bytes)
+{
+	uint8_t left[LENT];
+
+	untouched(left);
+	memcpy(left, bytes, expected.written);
+	if (same_reply(reply, expected) && memcmp(out, left, LENT) == 0) {
 		passed++;
 		return;
 	}
 	failed++;
-	printf("%s, %s: number %02u, written %u, expected %02u, %zu\n", source, deed,
-		(unsigned)reply.number, (unsigned)reply.written, (unsigned)number, len);
+	printf("%s, %s:\n", source, deed);
+	show_reply("got     ", reply);
 	show("got     ", out);
-	show("expected", expected);
+	show_reply("expected", expected);
+	show("expected", left);
+}
+
+void hold(const char *deed, const char *source, qg_reply reply,
+	const uint8_t *out, uint32_t number, const uint8_t *bytes, size_t len)
+{
+	qg_reply expected = { number, (uint32_t)len, 0, 0 };
+
+	hold_reply(deed, source, reply, out, expected, bytes);
 }
 
 void hold_refused(const char *deed, const char *source, qg_reply reply,

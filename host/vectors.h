@@ -49,8 +49,13 @@ uint8_t another_digit(uint8_t digit);
 /* Makes an output that no call has written to. */
 void untouched(uint8_t *out);
 
-/* Holds a reply and the lent output to what they must be: the number, the
- * bytes written, and every byte behind them untouched. */
+/* Holds a reply and the lent output to what they must be: all that the reply
+ * tells, the bytes written, and every byte behind them untouched. */
+void hold_reply(const char *deed, const char *source, qg_reply reply,
+	const uint8_t *out, qg_reply expected, const uint8_t *bytes);
+
+/* The same below the command level, where no reply points at anything: place
+ * and field are 0. */
 void hold(const char *deed, const char *source, qg_reply reply,
 	const uint8_t *out, uint32_t number, const uint8_t *bytes, size_t len);
 
