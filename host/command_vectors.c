@@ -163,6 +163,7 @@ void command_vectors(void)
 {
 	bk_vectors();
 	verification_vectors();
+	place_vectors();
 	refuse_short_output();
 	fill_least_output();
 	refuse_slices();

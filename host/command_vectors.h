@@ -112,5 +112,6 @@ void play(const struct exchange *rows, size_t count);
 /* The parts of the commands' vectors. */
 void bk_vectors(void);
 void verification_vectors(void);
+void place_vectors(void);
 
 #endif
