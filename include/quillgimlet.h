@@ -102,8 +102,8 @@
  * are responses too, and so is a verdict 01. What it writes is listed with it.
  *
  * Of a command that is refused for one of its fields the reply also says which
- * field that is and where it begins, so that a 15 need not be searched for. It
- * is told under "Which character" below.
+ * field that is and where it begins, so that a 15 need not be searched for:
+ * WHICH CHARACTER, below, tells of it.
  */
 
 #ifndef QUILLGIMLET_H
@@ -150,7 +150,7 @@ typedef struct {
  *   field     of qg_ask and qg_answer: the number of the field at fault, as the
  *             table of the command counts it; 0 where there is none.
  *
- * What they point at is listed under "Which character" below. Both are 0 for 00
+ * What they point at is listed under WHICH CHARACTER, below. Both are 0 for 00,
  * and for every call below the command level, whatever its number.
  *
  * A reply has 16 bytes. Before it told place and field it had 8: a server that
@@ -308,9 +308,11 @@ qg_settings qg_usual(void);
  *                      are, do not all agree
  *
  *
- * Which character. A host hears the number alone, and 15 may be any field. The
- * server hears in `place` and `field` where to look. Both calls tell it, and
- * of the same fault the same:
+ * WHICH CHARACTER
+ *
+ * The host hears the number alone, and 15 may be any field. The server hears in
+ * `place` and `field` where to look. Both calls tell it, and of the same fault
+ * the same:
  *
  *    number                        place                  field
  *    03, 15, 23, 25, 26, 29, 69    where that field       its number
@@ -364,7 +366,9 @@ qg_settings qg_usual(void);
  * is all that qg_ask tells and a block that is not 8 bytes.
  *
  *
- * An exchange. With the usual settings, for the command
+ * AN EXCHANGE
+ *
+ * With the usual settings, for the command
  *
  *    HDR1 BK 001
  *    U00000000000000000000000000000000
@@ -494,8 +498,8 @@ qg_reply qg_ask(qg_settings settings,
  * 255 becoming 0: BL for BK, DB for DA, EB for EA. Beside 68 it is that of the
  * code that came. BK never answers 01, and DA and EA never answer 03 or 86.
  *
- * For 00, 01, 10, 11, 20, 24, 68, 81, 86, 901 and 902 `place` and `field` are 0.
- * Nothing in what is written depends on them.
+ * For 00, 01, 10, 11, 20, 24, 68, 81, 86, 901 and 902 `place` and `field` are
+ * 0. Nothing in what is written depends on them.
  */
 qg_reply qg_answer(qg_settings settings,
 	uint8_t pin_key_parity_good, uint8_t pvk_parity_good,
