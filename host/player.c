@@ -4,13 +4,18 @@
 #include <string.h>
 
 #include "meanings.h"
+#include "names.h"
 #include "text.h"
+#include "underline.h"
 
 /* What the lent output holds before a call. */
 #define UNTOUCHED 0xA5
 
 /* Bytes behind the lent output, where a call has no business. */
 #define MARGIN 16
+
+/* How far what is shown stands from the left, behind its name. */
+#define INDENT 14
 
 #define SENT(e) (e)->command, (e)->command_len
 
@@ -53,6 +58,28 @@ static void show_slice(const char *name, const struct script_slice *slice)
 	printf("  %-11s ", name);
 	text_show_hex(stdout, slice->at, slice->len);
 	putchar('\n');
+}
+
+static bool is_placed(const qg_reply *reply)
+{
+	return reply->place != 0 || reply->field != 0;
+}
+
+/* Shows where a refusal points, and the command with its field underlined, but
+ * not twice where the other call's has shown the same. */
+static void show_place(const struct script_exchange *e, const qg_reply *reply,
+	const qg_reply *before)
+{
+	struct fields_sent sent = { e->settings, SENT(e) };
+
+	if (!fields_is_placed(&sent, reply) ||
+		(before != NULL && before->place == reply->place && before->field == reply->field))
+		return;
+	struct underline_span span = { reply->place, fields_fault_end(&sent, reply) };
+	printf("  %-11s ", "");
+	names_show_place(&sent, reply);
+	putchar('\n');
+	underline_show(SENT(e), span, INDENT);
 }
 
 static void show_outcome(const char *name, const struct outcome *outcome,
@@ -112,6 +139,17 @@ static bool hold_number(const char *name, uint32_t got, uint32_t expected)
 	return false;
 }
 
+/* Whether place and field are the expected ones, where any are expected. */
+static bool hold_place(const char *name, const qg_reply *got, const struct script_expected *expected)
+{
+	if (!expected->placed || (got->place == expected->place && got->field == expected->field))
+		return true;
+	printf("  DIFFERS     %s: the place is %u and the field %u; expected %u and %u\n", name,
+		(unsigned)got->place, (unsigned)got->field,
+		(unsigned)expected->place, (unsigned)expected->field);
+	return false;
+}
+
 static bool hold_length(const char *name, uint32_t got, size_t expected)
 {
 	if (got == expected)
@@ -148,16 +186,27 @@ static bool hold(const char *name, const struct outcome *outcome,
 	const struct script_expected *expected)
 {
 	bool number = hold_number(name, outcome->reply.number, expected->number);
+	bool place = hold_place(name, &outcome->reply, expected);
 	bool length = hold_length(name, outcome->reply.written, expected->len);
 	bool bytes = hold_bytes(name, outcome, expected);
 
-	return number && length && bytes;
+	return number && place && length && bytes;
+}
+
+/* Writes a place in the form of the script's lines. */
+static void write_place(uint32_t place, uint32_t field)
+{
+	printf(SCRIPT_AT " %u " SCRIPT_FIELD " %u", (unsigned)place, (unsigned)field);
 }
 
 static void show_expected(const char *name, const struct script_expected *expected,
 	void (*show)(FILE *stream, const uint8_t *bytes, size_t len))
 {
 	printf("  expected    %s: %02u", name, (unsigned)expected->number);
+	if (expected->placed) {
+		putchar(' ');
+		write_place(expected->place, expected->field);
+	}
 	if (expected->len > 0)
 		printf(", ");
 	show(stdout, expected->bytes, expected->len);
@@ -172,8 +221,10 @@ bool player_play(const struct script_exchange *e)
 	answer(e, &answered);
 	show_handed(e);
 	show_outcome("asks", &asked, text_show_hex);
+	show_place(e, &asked.reply, NULL);
 	show_key_box(e);
 	show_outcome("answers", &answered, text_show);
+	show_place(e, &answered.reply, &asked.reply);
 	bool asked_well = hold("asks", &asked, &e->asks);
 	if (!asked_well)
 		show_expected("asks", &e->asks, text_show_hex);
@@ -193,19 +244,29 @@ void player_write_asked(const struct script_exchange *e)
 		text_show_hex(stdout, asked.out, shown(&asked));
 	else
 		printf("%02u", (unsigned)asked.reply.number);
+	if (is_placed(&asked.reply)) {
+		putchar(' ');
+		write_place(asked.reply.place, asked.reply.field);
+	}
 }
 
-/* A response may begin with the very word that says that there is none: a
- * header is the host's. Its first letter is written in hex then. */
+/* Whether a response begins with the very word that says something else in an
+ * answers line: a header is the host's. */
+static bool begins_with(const struct outcome *answered, const char *word)
+{
+	size_t len = strlen(word);
+
+	return shown(answered) >= len && memcmp(answered->out, word, len) == 0;
+}
+
+/* The first letter of such a response is written in hex. */
 static void write_response(const struct outcome *answered)
 {
-	size_t word = strlen(SCRIPT_NOTHING), len = shown(answered), hidden = 0;
+	size_t hidden = begins_with(answered, SCRIPT_NOTHING) || begins_with(answered, SCRIPT_AT " ");
 
-	if (len >= word && memcmp(answered->out, SCRIPT_NOTHING, word) == 0)
-		hidden = 1;
 	if (hidden > 0)
 		printf("\\x%02X", answered->out[0]);
-	text_show(stdout, answered->out + hidden, len - hidden);
+	text_show(stdout, answered->out + hidden, shown(answered) - hidden);
 }
 
 void player_write_answered(const struct script_exchange *e)
@@ -213,6 +274,10 @@ void player_write_answered(const struct script_exchange *e)
 	struct outcome answered;
 
 	answer(e, &answered);
+	if (is_placed(&answered.reply)) {
+		write_place(answered.reply.place, answered.reply.field);
+		putchar(' ');
+	}
 	if (answered.reply.written > 0)
 		write_response(&answered);
 	else

@@ -2,17 +2,10 @@
 
 #include <string.h>
 
-#include "meanings.h"
+#include "script_expected.h"
 #include "text.h"
 
-#define BLOCK 8
-
-/* A response has at least its code and its number behind the header. */
-#define CODE 2
-#define NUMBER 2
-
-/* No number in a script has more figures. */
-#define FIGURES 3
+#define BLANKS " \t"
 
 /* When a line of a kind may stand. */
 enum place {
@@ -49,28 +42,12 @@ static const char *take_usual(struct script *script, const char *rest)
 	return NULL;
 }
 
-/* Reads one to three decimal figures and nothing else. */
-static bool read_number(const char *words, uint32_t *number)
-{
-	size_t len = strlen(words);
-
-	*number = 0;
-	if (len == 0 || len > FIGURES)
-		return false;
-	for (size_t i = 0; i < len; i++) {
-		if (words[i] < '0' || words[i] > '9')
-			return false;
-		*number = *number * 10 + (uint32_t)(words[i] - '0');
-	}
-	return true;
-}
-
 static const char *take_header(struct script *script, const char *rest)
 {
 	uint32_t number;
 
 	/* over 16 is admitted: the box answers it with 902 */
-	if (!read_number(rest, &number))
+	if (!text_is_number(rest, &number))
 		return "header: a number of one to three figures must follow";
 	script->now.settings.header = number;
 	return NULL;
@@ -100,7 +77,7 @@ static const char *take_room(struct script *script, const char *rest)
 {
 	uint32_t number;
 
-	if (!read_number(rest, &number) || number > SCRIPT_ROOM)
+	if (!text_is_number(rest, &number) || number > SCRIPT_ROOM)
 		return "room: a number from 0 to 128 must follow";
 	script->now.room = number;
 	return NULL;
@@ -168,83 +145,6 @@ static const char *take_parity(struct script *script, const char *rest)
 	return NULL;
 }
 
-static bool is_open(const char *rest)
-{
-	return strcmp(rest, "?") == 0;
-}
-
-/* An open expectation can be recorded, but nothing can be held to it. */
-static const char *take_open(const struct script *script)
-{
-	return script->may_be_open ? NULL : "? can be recorded but not played";
-}
-
-static const char *take_asks(struct script *script, const char *rest)
-{
-	struct script_expected *asks = &script->now.asks;
-	struct text_bytes bytes = { asks->bytes, 0, SCRIPT_ROOM };
-
-	if (asks->given)
-		return "asks: this exchange has such a line already";
-	if (!script->now.command_given)
-		return "asks: no command line stands before it";
-	asks->given = true;
-	if (is_open(rest))
-		return take_open(script);
-	if (read_number(rest, &asks->number))
-		return asks->number != 0 && meaning_of(asks->number) != NULL ? NULL :
-			"asks: the paper has no refusal of this number";
-	if (text_read_hex(rest, &bytes) != NULL || bytes.len != BLOCK)
-		return "asks: a block of 8 bytes in hex must follow, or the number of a refusal";
-	asks->len = bytes.len;
-	return NULL;
-}
-
-/* Takes the number out of an expected response: two digits behind header and
- * code. */
-static bool number_within(const qg_settings *settings, struct script_expected *answers)
-{
-	char digits[NUMBER + 1] = "";
-
-	if (answers->len < settings->header + CODE + NUMBER)
-		return false;
-	memcpy(digits, answers->bytes + settings->header + CODE, NUMBER);
-	return strlen(digits) == NUMBER && read_number(digits, &answers->number);
-}
-
-static const char *take_response(struct script *script, const char *rest)
-{
-	size_t word = strlen(SCRIPT_NOTHING);
-	struct script_expected *answers = &script->now.answers;
-	struct text_bytes bytes = { answers->bytes, 0, SCRIPT_ROOM };
-
-	answers->given = true;
-	if (is_open(rest))
-		return take_open(script);
-	if (strncmp(rest, SCRIPT_NOTHING, word) == 0)
-		return read_number(rest + word, &answers->number) &&
-			(answers->number == 901 || answers->number == 902) ? NULL :
-			"answers: behind nothing stands 901 or 902; a response that begins so is written \\x6Eothing";
-	const char *fault = text_read(rest, &bytes);
-	answers->len = bytes.len;
-	if (fault == NULL && !number_within(&script->now.settings, answers))
-		return "answers: a response is header, response code, a two-digit number and what follows";
-	return fault;
-}
-
-static const char *take_answers(struct script *script, const char *rest)
-{
-	const struct script_exchange *now = &script->now;
-
-	if (!now->asks.given)
-		return "answers: this exchange has no asks line";
-	if (!now->block.given)
-		return "answers: no block line stands before it";
-	if (!now->enciphered.given)
-		return "answers: no enciphered line stands before it";
-	return take_response(script, rest);
-}
-
 static const struct kind kinds[] = {
 	{ "name", PLACE_BEFORE_ASKS, SCRIPT_OTHER, take_name },
 	{ "usual", PLACE_BEFORE_ASKS, SCRIPT_OTHER, take_usual },
@@ -257,8 +157,8 @@ static const struct kind kinds[] = {
 	{ "block", PLACE_ANY, SCRIPT_OTHER, take_block },
 	{ "enciphered", PLACE_ANY, SCRIPT_OTHER, take_enciphered },
 	{ "parity", PLACE_ANY, SCRIPT_OTHER, take_parity },
-	{ "asks", PLACE_ANY, SCRIPT_ASKS, take_asks },
-	{ "answers", PLACE_ANY, SCRIPT_ANSWERS, take_answers },
+	{ "asks", PLACE_ANY, SCRIPT_ASKS, script_take_asks },
+	{ "answers", PLACE_ANY, SCRIPT_ANSWERS, script_take_answers },
 };
 
 static const struct kind *kind_of(const char *word, size_t len)
@@ -296,7 +196,7 @@ static void begin_exchange(struct script *script)
 /* Takes a line that is neither blank nor a comment. */
 static enum script_step take_line(struct script *script, const char *word)
 {
-	size_t len = strcspn(word, " \t");
+	size_t len = strcspn(word, BLANKS);
 	const struct kind *kind = kind_of(word, len);
 
 	if (kind == NULL)
@@ -307,7 +207,7 @@ static enum script_step take_line(struct script *script, const char *word)
 		return refuse(script, "this cannot change between asks and answers");
 	if (kind->take != take_more && kind->take != take_command)
 		script->in_command = false;
-	script->rest = word + len + strspn(word + len, " \t");
+	script->rest = word + len + strspn(word + len, BLANKS);
 	const char *fault = kind->take(script, script->rest);
 	if (fault != NULL)
 		return refuse(script, fault);
@@ -348,6 +248,15 @@ static enum script_step end(struct script *script)
 	return SCRIPT_END;
 }
 
+enum script_step script_take(struct script *script, const char *line)
+{
+	const char *word = line + strspn(line, BLANKS);
+
+	if (*word == '\0' || *word == '#')
+		return SCRIPT_OTHER;
+	return take_line(script, word);
+}
+
 enum script_step script_next(struct script *script)
 {
 	int first = getc(script->stream);
@@ -358,13 +267,10 @@ enum script_step script_next(struct script *script)
 	const char *fault = read_line(script, first);
 	if (fault != NULL)
 		return refuse(script, fault);
-	const char *word = script->text + strspn(script->text, " \t");
-	if (*word == '\0' || *word == '#')
-		return SCRIPT_OTHER;
-	return take_line(script, word);
+	return script_take(script, script->text);
 }
 
-bool script_open(struct script *script, const char *path, bool may_be_open)
+void script_begin(struct script *script, bool may_be_open)
 {
 	memset(script, 0, sizeof *script);
 	script->may_be_open = may_be_open;
@@ -372,6 +278,11 @@ bool script_open(struct script *script, const char *path, bool may_be_open)
 	script->now.room = SCRIPT_ROOM;
 	script->now.pin_key_parity_good = 1;
 	script->now.pvk_parity_good = 1;
+}
+
+bool script_open(struct script *script, const char *path, bool may_be_open)
+{
+	script_begin(script, may_be_open);
 	script->stream = fopen(path, "rb");
 	return script->stream != NULL;
 }

@@ -17,10 +17,21 @@
  *   parity PIN PVK        good or bad, for either key; at first good good
  *   asks HEX              expected of the asking call: the block that it
  *   asks N                writes, or the number of its refusal
+ *   asks N at P field F   the number with the place and the field that the
+ *                         asking call tells beside it
  *   answers TEXT          expected of the answering call: the response, or
  *   answers nothing N     the number, 901 or 902, beside which it writes none.
  *                         A response that begins with `nothing ` itself is
  *                         written \x6Eothing
+ *   answers at P field F TEXT
+ *                         the response with the place and the field that the
+ *                         answering call tells beside it. A response that
+ *                         begins with `at ` itself is written \x61t
+ *
+ * Places count from 0, the header counted in; 0 and 0 say that the call tells
+ * no place. Where a line does not say place and field they are not judged, so
+ * that a script that was written without them plays as before. What is recorded
+ * says them wherever they are not 0 and 0.
  *
  * How text and hex are written is said in text.h. An exchange has an `asks`
  * line and ends at its `answers` line. Everything but the name and these two
@@ -44,6 +55,10 @@
  * response. */
 #define SCRIPT_NOTHING "nothing "
 
+/* What stands before the place and before the field of a refusal. */
+#define SCRIPT_AT "at"
+#define SCRIPT_FIELD "field"
+
 /* More than the 4,096 bytes that have a frame. */
 #define SCRIPT_COMMAND 8192
 
@@ -56,9 +71,13 @@ struct script_slice {
 	bool given;
 };
 
-/* What a call must answer: the number, and the bytes that it writes. */
+/* What a call must answer: the number, the bytes that it writes, and where
+ * `placed` says so the place and the field. */
 struct script_expected {
 	uint32_t number;
+	uint32_t place;
+	uint32_t field;
+	bool placed;
 	uint8_t bytes[SCRIPT_ROOM];
 	size_t len;
 	bool given;
@@ -101,6 +120,12 @@ struct script {
 	unsigned exchanges;
 	struct script_exchange now;
 };
+
+/* Readies a script of which nothing is read yet. */
+void script_begin(struct script *script, bool may_be_open);
+
+/* Takes one line, without blanks at its end. */
+enum script_step script_take(struct script *script, const char *line);
 
 /* Opens a script. False: it cannot be opened. */
 bool script_open(struct script *script, const char *path, bool may_be_open);

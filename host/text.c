@@ -1,6 +1,6 @@
 #include "text.h"
 
-#include <stdbool.h>
+#include <string.h>
 
 #define LOWEST_PRINTABLE 0x20
 #define HIGHEST_PRINTABLE 0x7E
@@ -94,17 +94,48 @@ const char *text_read_hex(const char *words, struct text_bytes *to)
 	return fault;
 }
 
+bool text_read_number(const char **words, size_t figures, uint32_t *number)
+{
+	const char *at = *words;
+
+	for (*number = 0; figures > 0 && *at >= '0' && *at <= '9'; figures--, at++)
+		*number = *number * 10 + (uint32_t)(*at - '0');
+	bool read = at > *words;
+	*words = at;
+	return read;
+}
+
+bool text_is_number(const char *words, uint32_t *number)
+{
+	return text_read_number(&words, TEXT_FIGURES, number) && *words == '\0';
+}
+
+size_t text_columns(uint8_t byte)
+{
+	if (!printable(byte))
+		return strlen("\\xHH");
+	return byte == '\\' ? strlen("\\\\") : 1;
+}
+
+void text_show_byte(FILE *stream, uint8_t byte)
+{
+	if (!printable(byte))
+		fprintf(stream, "\\x%02X", byte);
+	else if (byte == '\\')
+		fputs("\\\\", stream);
+	else
+		putc(byte, stream);
+}
+
 void text_show(FILE *stream, const uint8_t *bytes, size_t len)
 {
 	for (size_t i = 0; i < len; i++) {
 		bool end = i == 0 || i + 1 == len;
 
-		if (bytes[i] == '\\')
-			fputs("\\\\", stream);
-		else if (!printable(bytes[i]) || (end && bytes[i] == ' '))
+		if (end && bytes[i] == ' ')
 			fprintf(stream, "\\x%02X", bytes[i]);
 		else
-			putc(bytes[i], stream);
+			text_show_byte(stream, bytes[i]);
 	}
 }
 

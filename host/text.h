@@ -12,6 +12,7 @@
 #ifndef HOST_TEXT_H
 #define HOST_TEXT_H
 
+#include <stdbool.h>
 #include <stddef.h>
 #include <stdint.h>
 #include <stdio.h>
@@ -28,7 +29,21 @@ struct text_bytes {
 const char *text_read(const char *words, struct text_bytes *to);
 const char *text_read_hex(const char *words, struct text_bytes *to);
 
+/* No number in a script has more figures, but for a place. */
+#define TEXT_FIGURES 3
+
+/* Reads one decimal figure or more, at most `figures`, and moves behind them. */
+bool text_read_number(const char **words, size_t figures, uint32_t *number);
+
+/* Reads words that are a number of one to three figures and nothing else. */
+bool text_is_number(const char *words, uint32_t *number);
+
 void text_show(FILE *stream, const uint8_t *bytes, size_t len);
 void text_show_hex(FILE *stream, const uint8_t *bytes, size_t len);
+
+/* One byte as text_show shows it inside a text, and how many columns that
+ * takes: 1, 2 or 4. */
+void text_show_byte(FILE *stream, uint8_t byte);
+size_t text_columns(uint8_t byte);
 
 #endif
