@@ -9,6 +9,9 @@
  * for blanks and carriage returns at the end of a line. A recorded script says
  * what the box does: that it is right, only a reading of the paper says.
  *
+ * labhost explain [OPTION]... [COMMAND]: tells of one command, field by field,
+ * what the box makes of it; explain.h says how.
+ *
  * The form of a script is told in script.h. All of a script is read before
  * anything is played or recorded, so it must be a file that can be read twice.
  * Where a line of any of them is malformed,
@@ -18,6 +21,7 @@
 #include <stdio.h>
 #include <string.h>
 
+#include "explain.h"
 #include "player.h"
 #include "script.h"
 #include "text.h"
@@ -158,7 +162,10 @@ int main(int argc, char **argv)
 		return play(argv + 2, argc - 2);
 	if (argc == 3 && strcmp(argv[1], "record") == 0)
 		return record(argv[2]);
+	if (argc >= 2 && strcmp(argv[1], "explain") == 0)
+		return explain(argv + 2, argc - 2);
 	fprintf(stderr, "usage: labhost play FILE...\n"
-		"       labhost record FILE\n");
+		"       labhost record FILE\n"
+		"       labhost explain [OPTION]... [COMMAND]\n");
 	return STATUS_MALFORMED;
 }
