@@ -171,27 +171,27 @@ judged-done s inputs at₆ at₁₀ e =
     let row = row-of-valid (accountIn s inputs) (validationIn s inputs) (offsetting-held 6 s at₆ inputs at₁₀ e .valid) in
     (packs (row .0), rw (row .1) refl)
 
-asked-done : (restricted : Bool) (s : List ℕ) (at : ℕ) (p : bk.Bk) (past : ℕ) → bkFields restricted s at ≡ read p past → (bytes : List ℕ) × (askedAt s (p .offsetting) ≡ done bytes)
+pub asked-done : (restricted : Bool) (s : List ℕ) (at : ℕ) (p : bk.Bk) (past : ℕ) → bkFields restricted s at ≡ read p past → (bytes : List ℕ) × (askedAt s (p .offsetting) ≡ done bytes)
 asked-done restricted s at p past e = let h = measured restricted s at p past e in judged-done s (p .offsetting) (h .0) (h .1) (h .2)
 
-verify-asked : (for : Use) (s : List ℕ) (at : ℕ) (v : Verification) (past : ℕ) → verifyFields for s at ≡ read v past → (bytes : List ℕ) × (askedAt s (v .offsetting) ≡ done bytes)
+pub verify-asked : (for : Use) (s : List ℕ) (at : ℕ) (v : Verification) (past : ℕ) → verifyFields for s at ≡ read v past → (bytes : List ℕ) × (askedAt s (v .offsetting) ≡ done bytes)
 verify-asked for s at v past e = let h = parts for s at v past e in judged-done s (v .offsetting) (h .check) (h .past) (h .inputs)
 
 module _ (settings : Settings) (g h : Bool) (s block enciphered : List ℕ) where
   -- and the answering call refuses in them too
-  by-code : (c : Code) (at : ℕ) (f : Fault) → askBy c settings s at ≡ refused f → answerBy c settings g h s at block enciphered ≡ refused f
+  pub refused-alike : (c : Code) (at : ℕ) (f : Fault) → askBy c settings s at ≡ refused f → answerBy c settings g h s at block enciphered ≡ refused f
   unfolding askBy answerBy
-  by-code Bk at f e = answer-refuses (bkShape settings) (asked-done (settings .restricted)) g h s at block enciphered f e
-  by-code Da at f e = answer-refuses (verifyShape terminal settings) (verify-asked (keyFor terminal)) g h s at block enciphered f e
-  by-code Ea at f e = answer-refuses (verifyShape zone settings) (verify-asked (keyFor zone)) g h s at block enciphered f e
-  by-code Other at f e = ap refused (refusal-of e)
+  refused-alike Bk at f e = answer-refuses (bkShape settings) (asked-done (settings .restricted)) g h s at block enciphered f e
+  refused-alike Da at f e = answer-refuses (verifyShape terminal settings) (verify-asked (keyFor terminal)) g h s at block enciphered f e
+  refused-alike Ea at f e = answer-refuses (verifyShape zone settings) (verify-asked (keyFor zone)) g h s at block enciphered f e
+  refused-alike Other at f e = ap refused (refusal-of e)
 
   by-frame :
       (o : Outcome ℕ) (q : Refusal) → heard (andThen (unpointed o) (λ code. askBy (frame.codeOf (drop code s)) settings s (code + 2))) ≡ refused q
       → silently (andThen o (λ code. done (responding (settings .header) s (heard (commanded settings g h s block enciphered code))))) .number ≡ numberOf q
   by-frame (done code) q e =
       let f = heard-refused (askBy (frame.codeOf (drop code s)) settings s (code + 2)) q e in
-      rw (by-code (frame.codeOf (drop code s)) (code + 2) (f .0) (f .1)) (ap numberOf (f .2))
+      rw (refused-alike (frame.codeOf (drop code s)) (code + 2) (f .0) (f .1)) (ap numberOf (f .2))
   by-frame (refused p) q e = ap numberOf (refusal-of e)
 
 pub answer-reads-the-fields : AnswerReadsTheFields

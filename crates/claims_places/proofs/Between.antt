@@ -1,0 +1,120 @@
+-- Texts one behind the other, and the faults of fields and stages.
+-- Assumes nothing.
+use Prim.Native.Nat.{ℕ, zero, suc, _+_, _-_, _≤_, _<_}
+use native.Mathlib.Nat.{add-assoc, add-zero, zero-add, suc-add}
+use native.Mathlib.Omega.{arith}
+use mathlib.Core.Path.{_≡_, refl, sym, ap, ap₂, _∙_, subst}
+use mathlib.Core.List.{List, [], _∷_, _++_, append-assoc}
+use lib.ListN.{length, take, drop, length-append}
+use Rattle.numbers.specs.Numbers.{done, refused}
+use Rattle.numbers.specs.declared.Refusal.{Refusal}
+use Rattle.fields.specs.Fields.{Found, Stage, read, faulty, field, fielded, onward}
+use Rattle.fields.specs.declared.Fault.{Fault}
+use Rattle.texts.specs.Texts.{together}
+use Rattle.texts.specs.Exact.{Writing, Exact, ExactAt}
+use Rattle.texts.proofs.Closing.{past-text}
+use Rattle.claims_places.specs.Begins.{Between, Begins}
+
+-- ---- texts between two places
+
+pub between-none : (s : List ℕ) (at : ℕ) → Between s at at []
+between-none s at = record { bytes = refl; reached = sym (add-zero at) }
+
+pub between-more : (s : List ℕ) (at place : ℕ) (t rest : List ℕ) (ts : List (List ℕ)) → drop at s ≡ t ++ rest → Between s (at + length t) place ts → Between s at place (t ∷ ts)
+between-more s at place t rest ts e b = record {
+  bytes = e ∙ ap (λ (l : List ℕ). t ++ l) (sym (past-text s at t rest e) ∙ b .bytes) ∙ sym (append-assoc t (together ts) (drop place s));
+  reached = b .reached ∙ add-assoc at (length t) (length (together ts)) ∙ ap (λ (n : ℕ). at + n) (sym (length-append t (together ts)));
+}
+
+pub together-append : (ts us : List (List ℕ)) → together (ts ++ us) ≡ together ts ++ together us
+together-append [] us = refl
+together-append (t ∷ ts) us = ap (λ (l : List ℕ). t ++ l) (together-append ts us) ∙ sym (append-assoc t (together ts) (together us))
+
+pub between-append : (s : List ℕ) (start at place : ℕ) (ts us : List (List ℕ)) → Between s start at ts → Between s at place us → Between s start place (ts ++ us)
+between-append s start at place ts us b d = record {
+  bytes = b .bytes ∙ ap (λ (l : List ℕ). together ts ++ l) (d .bytes) ∙ sym (append-assoc (together ts) (together us) (drop place s)) ∙ ap (λ (l : List ℕ). l ++ drop place s) (sym (together-append ts us));
+  reached = d .reached ∙ ap (λ (n : ℕ). n + length (together us)) (b .reached) ∙ add-assoc start (length (together ts)) (length (together us))
+      ∙ ap (λ (n : ℕ). start + n) (sym (length-append (together ts) (together us)) ∙ ap length (sym (together-append ts us)));
+}
+
+-- one text alone
+pub between-one : (s : List ℕ) (at : ℕ) (t rest : List ℕ) → drop at s ≡ t ++ rest → Between s at (at + length t) (t ∷ [])
+between-one s at t rest e = between-more s at (at + length t) t rest [] e (between-none s (at + length t))
+
+-- a text that is made of some
+pub between-whole : (s : List ℕ) (at : ℕ) (t rest : List ℕ) (ts : List (List ℕ)) → t ≡ together ts → drop at s ≡ t ++ rest → Between s at (at + length t) ts
+between-whole s at t rest ts same e = record {
+  bytes = e ∙ ap₂ _++_ same (sym (past-text s at t rest e));
+  reached = ap (λ (l : List ℕ). at + length l) same;
+}
+
+-- ---- faults
+
+-- a field's own fault, or one behind it, where the field is some text
+pub field-fault : {A B C : Type 0} (k : ℕ) (reader : List ℕ → Found A) (w : Writing A) (x : Exact reader w) (s : List ℕ) (at : ℕ) (next : A → ℕ → Stage B) (f : Fault)
+    → field k reader s at next ≡ faulty f → ((f .field ≡ k) × (f .place ≡ at) → C)
+    → ((p : w .Part) (rest : List ℕ) → w .fine p rest → drop at s ≡ w .text p ++ rest → next (w .value p) (at + length (w .text p)) ≡ faulty f → C) → C
+field-fault {A} {B} {C} k reader w x s at next f e own behind = by-found (reader (drop at s)) refl e
+  where
+    by-found : (o : Found A) → reader (drop at s) ≡ o → fielded k at o next ≡ faulty f → C
+    by-found (done r) h g =
+        let o = x .only (drop at s) (r .0) (r .1) h in
+        behind (o .part) (o .rest) (o .good) (o .whole) (ap₂ (λ (a : A) (n : ℕ). next a (at + n)) (sym (o .same)) (sym (o .count)) ∙ g)
+    by-found (refused q) h g = let same : record { refusal = q; field = k; place = at } ≡ f = cc in own (sym (ap (λ (y : Fault). y .field) same), sym (ap (λ (y : Fault). y .place) same))
+
+-- a stage's own fault, or one behind it
+pub onward-fault : {A B C : Type 0} (s : List ℕ) (at : ℕ) (stage : Stage A) (w : Writing A) (x : ExactAt s at stage w) (next : A → ℕ → Stage B) (f : Fault)
+    → onward stage next ≡ faulty f → (stage ≡ faulty f → C)
+    → ((p : w .Part) (rest : List ℕ) → w .fine p rest → drop at s ≡ w .text p ++ rest → next (w .value p) (at + length (w .text p)) ≡ faulty f → C) → C
+onward-fault {A} {B} {C} s at stage w x next f e own behind = by-stage stage refl e
+  where
+    by-stage : (o : Stage A) → stage ≡ o → onward o next ≡ faulty f → C
+    by-stage (read a past) h g =
+        let r = x .only a past h in
+        let o = r .2 in
+        behind (o .part) (o .rest) (o .good) (o .whole) (ap₂ next (sym (o .same)) (sym (r .1 ∙ ap (λ (n : ℕ). at + n) (o .count))) ∙ g)
+    by-stage (faulty g) h k = let same : g ≡ f = cc in own (h ∙ ap faulty same)
+
+-- what was read is no fault
+pub no-fault : {A C : Type 0} {a : A} {n : ℕ} {f : Fault} → read a n ≡ faulty f → C
+no-fault e = absurd (let z : _≡_ {A = ℕ} 0 1 = cc in omega arith)
+
+-- that of a last stage is its own
+pub last-fault : {A B C : Type 0} (stage : Stage A) (value : A → B) (f : Fault) → onward stage (λ a past. read (value a) past) ≡ faulty f → (stage ≡ faulty f → C) → C
+last-fault (read a past) value f e own = no-fault e
+last-fault (faulty g) value f e own = let same : g ≡ f = cc in own (ap faulty same)
+
+-- ---- a stage that halts at one of its fields
+
+-- its fields are counted from `first`; `count` of them stand before the place
+pub record Halts {P : Type 0} (Are : P → Type 0) (texts : P → List (List ℕ)) (first : ℕ) (s : List ℕ) (at : ℕ) (f : Fault) : Type 0 where
+  pub parts : P
+  pub are : Are parts
+  pub count : ℕ
+  pub short : count < length (texts parts)
+  pub field : f .field ≡ first + count
+  pub between : Between s at (f .place) (take count (texts parts))
+
+-- so many of the first, and then some of the others
+pub take-behind : (ts us vs : List (List ℕ)) (n : ℕ) → n ≤ length us → take (length ts + n) (ts ++ (us ++ vs)) ≡ ts ++ take n us
+take-behind [] us vs n h = rw (zero-add n) (within us n h)
+  where
+    within : (us : List (List ℕ)) (n : ℕ) → n ≤ length us → take n (us ++ vs) ≡ take n us
+    within us zero h = refl
+    within [] (suc n) h = absurd (omega arith)
+    within (u ∷ us) (suc n) h = ap (λ (l : List (List ℕ)). u ∷ l) (within us n (omega arith))
+take-behind (t ∷ ts) us vs n h = rw (suc-add (length ts) n) (ap (λ (l : List (List ℕ)). t ∷ l) (take-behind ts us vs n h))
+
+-- a command halts where its stage does: before it stand some texts, and its parts hold those and the stage's
+pub halts-begins :
+    {P Q : Type 0} (Are : P → Type 0) (texts : P → List (List ℕ)) (AreQ : Q → Type 0) (textsQ : Q → List (List ℕ)) (first : ℕ) (s : List ℕ) (start at : ℕ) (f : Fault)
+    (ts more : List (List ℕ)) → Between s start at ts → (h : Halts AreQ textsQ first s at f) → first ≡ 1 + length ts
+    → (p : P) → Are p → texts p ≡ ts ++ (textsQ (h .parts) ++ more)
+    → (1 ≤ f .field) × (f .field ≤ length (texts p)) × Begins Are texts s start (f .place) (f .field - 1)
+halts-begins Are texts AreQ textsQ first s start at f ts more b h counted p good same =
+    let field = h .field in
+    let short = h .short in
+    let before : f .field - 1 ≡ length ts + h .count = omega arith in
+    let taken : take (f .field - 1) (texts p) ≡ ts ++ take (h .count) (textsQ (h .parts)) = ap₂ take before same ∙ take-behind ts (textsQ (h .parts)) more (h .count) (omega arith) in
+    let long : length (texts p) ≡ length ts + (length (textsQ (h .parts)) + length more) = ap length same ∙ length-append ts (textsQ (h .parts) ++ more) ∙ ap (λ (n : ℕ). length ts + n) (length-append (textsQ (h .parts)) more) in
+    (omega arith, omega arith, (p, good, subst (Between s start (f .place)) (sym taken) (between-append s start at (f .place) ts _ b (h .between))))

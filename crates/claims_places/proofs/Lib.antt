@@ -1,0 +1,6 @@
+pub mod Between
+pub mod FieldTexts
+pub mod Stages
+pub mod Begins
+pub mod VerifyBegins
+pub mod Claims

@@ -1,0 +1,218 @@
+-- The stages that commands share halt at one of their fields: before it stand the fields before it.
+-- Assumes nothing.
+use Prim.Native.Nat.{ℕ, _+_, _≤_, _<_}
+use Prim.Native.Char.{code}
+use native.Mathlib.Nat.{add-zero}
+use native.Mathlib.Omega.{arith}
+use mathlib.Core.Path.{_≡_, refl, sym, ap, _∙_, subst}
+use mathlib.Core.Logic.{inl, inr}
+use mathlib.Core.List.{List, [], _∷_, _++_, append-nil}
+use mathlib.Core.Bool.{Bool, true, false, cond}
+use lib.ListN.{length, take, drop, replicate, length-drop}
+use lib.Dec.{leb}
+use borrow.Author.Tests.{leb-false}
+use Rattle.alphabet.specs.Alphabet.{allOf, begins}
+use Rattle.alphabet.specs.declared.Class.the-variants.{Digit, CapitalHex}
+use Rattle.numbers.specs.Numbers.{done}
+use Rattle.numbers.specs.declared.Refusal.the-variants.{Field15, Table25}
+use Rattle.formats.specs.declared.Format.the-variants.{F01}
+use Rattle.fields.specs.Fields.{Stage, read, faulty, run, number, trailer}
+use Rattle.fields.specs.declared.Fault.{Fault}
+use Rattle.lmk.specs.Lmk.{lmkField, present}
+use Rattle.lmk.specs.declared.Lmk.{Lmk}
+use Rattle.lmk.specs.declared.Lmk.the-variants as lmk
+use Rattle.uses.specs.declared.Use.{Use}
+use Rattle.keys.specs.Keys.{key}
+use Rattle.keys.specs.declared.Letters.{Letters}
+use Rattle.formatfield.specs.FormatField.{formatField}
+use Rattle.validationfield.specs.ValidationField.{validationField}
+use Rattle.keyfields.specs.KeyFields.{keyPair}
+use Rattle.keyfields.specs.declared.Keys.{Keys}
+use Rattle.sealed.specs.Sealed.{sealed}
+use Rattle.offsetting.specs.Offsetting.{offsetting}
+use Rattle.endings.specs.Endings.{allAgree, lastId, closed, end}
+use Rattle.texts.specs.Texts.{asTwoDigits, Optional, absent, WherePresent, IsTrailer, trailerText, markOfTrailer}
+use Rattle.texts.specs.Texts as text
+use Rattle.texts.specs.Writings.{runs, numbers, trailers}
+use Rattle.texts.proofs.Closing.{past-text}
+use Rattle.texts.proofs.Readers.{run-exact, number-exact, trailer-exact}
+use Rattle.texts_keys.specs.KeyTexts.{keyText, IsKey, IsId, idText, markOfId}
+use Rattle.texts_keys.specs.KeyWritings.{ruleFor, Admits, keyed, ids}
+use Rattle.texts_keys.proofs.KeyFields.{key-exact, id-exact}
+use Rattle.texts_data.specs.DataTexts.{Allows, withN}
+use Rattle.texts_data.specs.DataWritings.{formats, validations}
+use Rattle.texts_data.proofs.Formats.{format-exact}
+use Rattle.texts_data.proofs.ValidationData.{data-exact}
+use Rattle.texts_stages.specs.StageTexts.{PairFields, SealedFields, AreSealed, InputFields, AreInputs, EndFields, AreEnd}
+use Rattle.claims_places.specs.FieldTexts.{pairFields, sealedFields, inputFields, endFields}
+use Rattle.claims_places.specs.Begins.{Between, Unmarked, FullTrailer, EndTook}
+use Rattle.claims_places.proofs.Between.{between-none, between-more, between-one, field-fault, no-fault, Halts}
+
+-- so many of its fields stand before the place
+module _ {P : Type 0} (Are : P → Type 0) (texts : P → List (List ℕ)) (first : ℕ) (s : List ℕ) (at : ℕ) (f : Fault) where
+  pub halts-at : (p : P) → Are p → (n from : ℕ) → n < length (texts p) → Between s at from (take n (texts p)) → (f .field ≡ first + n) × (f .place ≡ from) → Halts Are texts first s at f
+  halts-at p good n from short b (k, e) = record { parts = p; are = good; count = n; short = short; field = k; between = subst (λ (m : ℕ). Between s at m (take n (texts p))) (sym e) b }
+
+  -- none does
+  pub halts-first : (p : P) → Are p → 0 < length (texts p) → (f .field ≡ first) × (f .place ≡ at) → Halts Are texts first s at f
+  halts-first p good some (k, e) = halts-at p good 0 at some (between-none s at) (k ∙ sym (add-zero first), e)
+
+-- ---- two keys
+
+-- what the fields of a pair admit
+abbrev pub ArePair : Letters → Use → Letters → Use → PairFields → Type 0
+ArePair letters₁ use₁ letters₂ use₂ k = (Admits letters₁ (k .first) × IsKey (ruleFor use₁) (k .first)) × (Admits letters₂ (k .second) × IsKey (ruleFor use₂) (k .second))
+
+-- with keys at hand that they admit, for what stands behind the place
+pub pair-halts :
+    (first : ℕ) (letters₁ : Letters) (use₁ : Use) (letters₂ : Letters) (use₂ : Use) (some : PairFields) → ArePair letters₁ use₁ letters₂ use₂ some
+    → (s : List ℕ) (at : ℕ) (f : Fault) → keyPair first letters₁ use₁ letters₂ use₂ s at ≡ faulty f → Halts (ArePair letters₁ use₁ letters₂ use₂) pairFields first s at f
+unfolding keyPair
+pair-halts first letters₁ use₁ letters₂ use₂ some good s at f e =
+    let Are = ArePair letters₁ use₁ letters₂ use₂ in
+    field-fault first (key letters₁ use₁) (keyed letters₁ use₁) (key-exact letters₁ use₁) s at _ f e (halts-first Are pairFields first s at f some good (omega arith))
+    (λ k rest g w h. field-fault (first + 1) (key letters₂ use₂) (keyed letters₂ use₂) (key-exact letters₂ use₂) s (at + length (keyText k)) _ f h
+    (halts-at Are pairFields first s at f (record { first = k; second = some .second }) (g, good .1) 1 (at + length (keyText k)) (omega arith) (between-one s at (keyText k) rest w))
+    (λ _ _ _ _ r. no-fault r))
+
+-- ---- PIN block and format
+
+abbrev pub someSealed : SealedFields
+someSealed = record { block = replicate 16 (code "0"); format = F01 }
+
+format-01 : (restricted : Bool) → Allows restricted F01
+format-01 true = inl refl
+format-01 false = tt
+
+pub sealed-good : (restricted : Bool) → AreSealed restricted someSealed
+unfolding allOf
+sealed-good restricted = record { block = (refl, refl); format = format-01 restricted }
+
+pub sealed-halts : (restricted : Bool) (s : List ℕ) (at : ℕ) (f : Fault) → sealed 4 restricted s at ≡ faulty f → Halts (AreSealed restricted) sealedFields 4 s at f
+unfolding sealed
+sealed-halts restricted s at f e =
+    field-fault 4 (run CapitalHex Field15 Field15 16) (runs CapitalHex 16) (run-exact CapitalHex Field15 Field15 16) s at _ f e
+    (halts-first (AreSealed restricted) sealedFields 4 s at f someSealed (sealed-good restricted) (omega arith))
+    (λ block rest g w h. field-fault 5 (formatField restricted) (formats restricted) (format-exact restricted) s (at + length block) _ f h
+    (halts-at (AreSealed restricted) sealedFields 4 s at f (record { block = block; format = F01 }) (record { block = g; format = format-01 restricted }) 1 (at + length block) (omega arith) (between-one s at block rest w))
+    (λ _ _ _ _ r. no-fault r))
+
+-- ---- check length, account, table, validation data
+
+abbrev pub someInputs : InputFields
+someInputs = record { check = 4; account = replicate 12 (code "0"); table = replicate 16 (code "0"); validation = withN (replicate 11 (code "0")) [] }
+
+pub inputs-good : AreInputs someInputs
+unfolding allOf
+inputs-good = record { check = (omega arith, omega arith); account = (refl, refl); table = (refl, refl); validation = (refl, refl) }
+
+pub inputs-halts : (s : List ℕ) (at : ℕ) (f : Fault) → offsetting 6 s at ≡ faulty f → Halts AreInputs inputFields 6 s at f
+unfolding offsetting
+inputs-halts s at f e =
+    let good = inputs-good in
+    field-fault 6 (number 4 12 Field15) (numbers 4 12) (number-exact 4 12 Field15 (omega arith)) s at _ f e (halts-first AreInputs inputFields 6 s at f someInputs good (omega arith))
+    (λ check rest g w h.
+    let t₁ = asTwoDigits check in
+    let at₂ = at + length t₁ in
+    field-fault 7 (run Digit Field15 Field15 12) (runs Digit 12) (run-exact Digit Field15 Field15 12) s at₂ _ f h
+    (halts-at AreInputs inputFields 6 s at f (record { check = check; account = someInputs .account; table = someInputs .table; validation = someInputs .validation })
+    (record { check = g; account = good .account; table = good .table; validation = good .validation }) 1 at₂ (omega arith) (between-one s at t₁ rest w))
+    (λ account rest₂ g₂ w₂ h₂.
+    let at₃ = at₂ + length account in
+    field-fault 8 (run Digit Field15 Table25 16) (runs Digit 16) (run-exact Digit Field15 Table25 16) s at₃ _ f h₂
+    (halts-at AreInputs inputFields 6 s at f (record { check = check; account = account; table = someInputs .table; validation = someInputs .validation })
+    (record { check = g; account = g₂; table = good .table; validation = good .validation }) 2 at₃ (omega arith) (between-more s at at₃ t₁ rest _ w (between-one s at₂ account rest₂ w₂)))
+    (λ table rest₃ g₃ w₃ h₃.
+    let at₄ = at₃ + length table in
+    field-fault 9 validationField validations data-exact s at₄ _ f h₃
+    (halts-at AreInputs inputFields 6 s at f (record { check = check; account = account; table = table; validation = someInputs .validation })
+    (record { check = g; account = g₂; table = g₃; validation = good .validation }) 3 at₄ (omega arith)
+    (between-more s at at₄ t₁ rest _ w (between-more s at₂ at₄ account rest₂ _ w₂ (between-one s at₃ table rest₃ w₃))))
+    (λ _ _ _ _ r. no-fault r))))
+
+-- ---- the end
+
+-- nothing of it
+abbrev pub noEnd : EndFields
+noEnd = record { id = absent; trailer = absent }
+
+-- it halts at one of its fields; or its fields stand before the place, where a byte is left over; or the fault is the second key's
+pub data EndFault (ks : Keys) (s : List ℕ) (at : ℕ) (f : Fault) : Type 0 where
+  halted : Halts AreEnd endFields 11 s at f → EndFault ks s at f
+  over : (e : EndFields) → AreEnd e → Between s at (f .place) (endFields e) → EndTook e (drop (f .place) s) → f .place < length s → f .field ≡ 0 → EndFault ks s at f
+  second : f .field ≡ ks .field → f .place ≡ ks .place → EndFault ks s at f
+
+id-is : (v : Optional ℕ) (rest : List ℕ) → ids .fine v rest → WherePresent IsId v
+id-is absent rest g = tt
+id-is (text.present n) rest g = g
+
+trailer-is : (t : Optional (List ℕ)) (rest : List ℕ) → trailers .fine t rest → WherePresent IsTrailer t
+trailer-is absent rest g = tt
+trailer-is (text.present cs) rest g = g .0
+
+id-unmarked : (v : Optional ℕ) (rest : List ℕ) → ids .fine v rest → Unmarked markOfId v rest
+id-unmarked absent rest g = g
+id-unmarked (text.present n) rest g = tt
+
+trailer-unmarked : (t : Optional (List ℕ)) (rest : List ℕ) → trailers .fine t rest → Unmarked markOfTrailer t rest
+trailer-unmarked absent rest g = g
+trailer-unmarked (text.present cs) rest g = tt
+
+-- a trailer that has something behind it is full
+trailer-full : (t : Optional (List ℕ)) (rest : List ℕ) → trailers .fine t rest → 1 ≤ length rest → FullTrailer t
+trailer-full absent rest g h = tt
+trailer-full (text.present cs) rest (g, inl none) h = absurd (let z = ap length none in omega arith)
+trailer-full (text.present cs) rest (g, inr full) h = full
+
+-- what the fault is, where both sides are faults
+same-fault : {A : Type 0} {g f : Fault} → _≡_ {A = Stage A} (faulty g) (faulty f) → (f .field ≡ g .field) × (f .place ≡ g .place)
+same-fault {g = g} {f = f} e = let same : g ≡ f = cc in (sym (ap (λ (x : Fault). x .field) same), sym (ap (λ (x : Fault). x .place) same))
+
+pub no-end-good : AreEnd noEnd
+no-end-good = record { id = tt; trailer = tt }
+
+-- "For disagreeing LMK ids, point at the last id that is present": the end's own, or else the second key's
+ids-fault : (ks : Keys) (s : List ℕ) (at : ℕ) (f : Fault) (v : Optional ℕ) → _≡_ {A = Stage ℕ} (faulty (lastId ks (ids .value v) 11 at)) (faulty f) → EndFault ks s at f
+ids-fault ks s at f absent e = let g = same-fault e in second (g .0) (g .1)
+ids-fault ks s at f (text.present n) e = halted (halts-first AreEnd endFields 11 s at f noEnd no-end-good (omega arith) (same-fault e))
+
+module _ (ks : Keys) (s : List ℕ) (at : ℕ) (f : Fault) (v : Optional ℕ) (t : Optional (List ℕ)) where
+  abbrev mark : ℕ
+  mark = at + length (idText v)
+
+  abbrev past : ℕ
+  past = mark + length (trailerText t)
+
+  -- behind both fields: something is left over, or ids disagree
+  closed-fault : (rest : List ℕ) → ids .fine v (trailerText t ++ rest) → trailers .fine t rest → drop past s ≡ rest → Between s at past (idText v ∷ trailerText t ∷ [])
+      → closed ks (ids .value v) 11 at s mark past ≡ faulty f → EndFault ks s at f
+  closed-fault rest g h w b e = by-rest (leb (length s) past) refl e
+    where
+      left : past < length s → (f .field ≡ 0) × (f .place ≡ past) → EndFault ks s at f
+      left more (k, p) =
+          let some : 1 ≤ length rest = omega (arith, length-drop past s, ap length w) in
+          let end : EndFields = record { id = v; trailer = t } in
+          let here = subst (λ (n : ℕ). drop n s ≡ rest) (sym p) w in
+          over end (record { id = id-is v _ g; trailer = trailer-is t rest h }) (subst (λ (n : ℕ). Between s at n (endFields end)) (sym p) b)
+          (subst (EndTook end) (sym here) (record { id = id-unmarked v _ g; trailer = trailer-unmarked t rest h; full = trailer-full t rest h some })) (rw p more) k
+
+      by-ids : (agree : Bool) → cond agree (read mark past) (faulty (lastId ks (ids .value v) 11 at)) ≡ faulty f → EndFault ks s at f
+      by-ids true d = no-fault d
+      by-ids false d = ids-fault ks s at f v d
+
+      by-rest : (ended : Bool) → leb (length s) past ≡ ended
+          → cond ended (cond (allAgree ks (ids .value v)) (read mark past) (faulty (lastId ks (ids .value v) 11 at))) (faulty (record { refusal = Field15; field = 0; place = past })) ≡ faulty f → EndFault ks s at f
+      by-rest true k d = by-ids (allAgree ks (ids .value v)) d
+      by-rest false k d = left (leb-false (length s) past k) (same-fault d)
+
+pub end-faults : (ks : Keys) (s : List ℕ) (at : ℕ) (f : Fault) → end 11 ks s at ≡ faulty f → EndFault ks s at f
+unfolding end
+end-faults ks s at f e =
+    field-fault 11 lmkField ids id-exact s at _ f e (λ own. halted (halts-first AreEnd endFields 11 s at f noEnd no-end-good (omega arith) own))
+    (λ v rest g w h. field-fault 12 trailer trailers trailer-exact s (at + length (idText v)) _ f h
+    (λ own. halted (halts-at AreEnd endFields 11 s at f (record { id = v; trailer = absent }) (record { id = id-is v rest g; trailer = tt }) 1 (at + length (idText v)) (omega arith) (between-one s at (idText v) rest w) own))
+    (λ t rest₂ g₂ w₂ h₂.
+    let mark = at + length (idText v) in
+    let behind : rest ≡ trailerText t ++ rest₂ = sym (past-text s at (idText v) rest w) ∙ w₂ in
+    closed-fault ks s at f v t rest₂ (subst (ids .fine v) behind g) g₂ (past-text s mark (trailerText t) rest₂ w₂)
+    (between-more s at (mark + length (trailerText t)) (idText v) rest _ w (between-one s mark (trailerText t) rest₂ w₂)) h₂))

@@ -1,0 +1,3 @@
+pub mod FieldTexts
+pub mod Begins
+pub mod Claims
