@@ -1,55 +1,44 @@
 -- A command's fault points at the field that begins there, or at the first byte that no field took.
 -- Assumes nothing.
-use Prim.Native.Nat.{ℕ, suc, _+_, _-_, _≤_, _<_}
+use Prim.Native.Nat.{ℕ, suc, _+_}
 use Prim.Native.Char.{code}
 use native.Mathlib.Omega.{arith}
 use mathlib.Core.Path.{_≡_, refl, sym, ap, _∙_, subst}
 use mathlib.Core.Logic.{inl, inr}
-use mathlib.Core.List.{List, [], _∷_, _++_, append-assoc, append-nil}
+use mathlib.Core.List.{List, [], _∷_, _++_, append-assoc}
 use mathlib.Core.Bool.{Bool}
-use lib.ListN.{length, take, drop, replicate}
+use lib.ListN.{length, drop, replicate}
 use Rattle.alphabet.specs.Alphabet.{allOf}
-use Rattle.numbers.specs.declared.Refusal.the-variants.{Field15}
-use Rattle.fields.specs.Fields.{faulty, number}
+use Rattle.fields.specs.Fields.{faulty}
 use Rattle.fields.specs.declared.Fault.{Fault}
-use Rattle.uses.specs.Uses.{pinKey, pvk, verifyingPvk}
-use Rattle.uses.specs.declared.Use.{Use}
-use Rattle.keys.specs.Keys.{keyType, anyLetter}
-use Rattle.keyfields.specs.KeyFields.{keyPair, keys}
-use Rattle.keyfields.specs.declared.Keys.{Keys}
+use Rattle.uses.specs.Uses.{pinKey, pvk}
+use Rattle.keys.specs.Keys.{keyType}
+use Rattle.keyfields.specs.KeyFields.{keys}
 use Rattle.sealed.specs.Sealed.{sealed}
 use Rattle.offsetting.specs.Offsetting.{offsetting}
-use Rattle.offsetfield.specs.OffsetField.{offsetField}
 use Rattle.weakfield.specs.WeakField.{weakField}
 use Rattle.weaklist.specs.WeakList.{weak}
 use Rattle.endings.specs.Endings.{end}
 use Rattle.bkfields.specs.BkFields.{weakMark, bkFields}
-use Rattle.verifyfields.specs.VerifyFields.{maximum, restricted, front, verifyFields}
+use Rattle.verifyfields.specs.VerifyFields.{restricted}
 use Rattle.texts.specs.Characters.{printed}
-use Rattle.texts.specs.Texts.{Optional, absent, present, WherePresent, asTwoDigits, optionalText, trailerText, together}
-use Rattle.texts.specs.Exact.{Writing, ExactAt}
-use Rattle.texts.specs.Joining.{joined, mapped}
-use Rattle.texts.proofs.Closing.{past-text, onward-exact, field-last}
-use Rattle.texts_keys.specs.KeyTexts.{KeyType, is001, is002, isFFF, typeText, KeyRule, KeyBlock, IsBlock, Key, double, block, keyText, IsKey, idText}
+use Rattle.texts.specs.Texts.{Optional, absent, present, WherePresent, optionalText}
+use Rattle.texts.proofs.Closing.{past-text}
+use Rattle.texts_keys.specs.KeyTexts.{KeyType, is001, is002, isFFF, typeText, KeyBlock, Key, double, block, keyText}
 use Rattle.texts_keys.specs.KeyWritings.{types, lettersOf, ruleFor}
-use Rattle.texts_keys.proofs.KeyFields.{type-exact, wanted-admitted, letter-admitted}
-use Rattle.texts_data.specs.DataTexts.{validationText, WeakList, weakText, IsWeakList, markOfWeakList, maximumText, presentedText, IsPresented}
-use Rattle.texts_data.specs.DataWritings.{weakFine, weakLists, maxima, offsets}
+use Rattle.texts_keys.proofs.KeyFields.{type-exact, wanted-admitted}
+use Rattle.texts_data.specs.DataTexts.{WeakList, weakText, IsWeakList, markOfWeakList}
+use Rattle.texts_data.specs.DataWritings.{weakFine, weakLists}
 use Rattle.texts_data.proofs.WeakLists.{weak-exact}
-use Rattle.texts_data.proofs.Maximum.{maximum-exact}
-use Rattle.texts_data.proofs.Offsets.{offset-exact}
-use Rattle.texts_stages.specs.StageTexts.{PairFields, pairText, KeyFields, keysText, AreKeys, SealedFields, sealedText, AreSealed, InputFields, inputsText, AreInputs, EndFields, endText, AreEnd}
-use Rattle.texts_stages.specs.StageWritings.{pairAt, keysAt, sealedAt, inputsAt}
-use Rattle.texts_stages.proofs.Stages.{pair-exact, keys-exact, sealed-exact, inputs-exact, weak-stage-exact}
-use Rattle.claims_commands.specs.Runs.{Verifying, keyFor}
-use Rattle.claims_exactly.specs.BkText.{BkParts, bkText}
-use Rattle.claims_exactly.specs.VerifyText.{pinKeyRuleOf, VerifyParts, verifyText, IsOwnKey}
-use Rattle.claims_exactly.proofs.VerifyFields.{key-ruled}
-use Rattle.claims_places.specs.FieldTexts.{pairFields, keyFields, sealedFields, inputFields, endFields, bkFieldTexts, verifyFieldTexts, TextsAreFields}
-use Rattle.claims_places.specs.Begins.{Between, Begins, AreBk, AreVerify, Unmarked, EndTook, LeftOver, BkTook, VerifyTook, PointsAt, BkPointsAt, VerifyPointsAt}
-use Rattle.claims_places.proofs.FieldTexts.{pair-fields, key-fields, sealed-fields, input-fields, end-fields, points-begun, points-over}
-use Rattle.claims_places.proofs.Between.{between-none, between-more, between-one, between-whole, between-append, together-append, field-fault, onward-fault, last-fault, no-fault, Halts, halts-begins}
-use Rattle.claims_places.proofs.Stages.{halts-at, halts-first, ArePair, pair-halts, someSealed, sealed-good, sealed-halts, someInputs, inputs-good, inputs-halts, noEnd, no-end-good, EndFault, halted, over, second, end-faults}
+use Rattle.texts_stages.specs.StageTexts.{PairFields, KeyFields, keysText, AreKeys, SealedFields, sealedText, AreSealed, InputFields, inputsText, AreInputs, EndFields, endText, AreEnd}
+use Rattle.texts_stages.specs.StageWritings.{keysAt, sealedAt, inputsAt}
+use Rattle.texts_stages.proofs.Stages.{keys-exact, sealed-exact, inputs-exact, weak-stage-exact}
+use Rattle.claims_exactly.specs.BkText.{BkParts}
+use Rattle.claims_places.specs.FieldTexts.{keyFields, sealedFields, inputFields, endFields, bkFieldTexts}
+use Rattle.claims_places.specs.Begins.{Between, AreBk, Unmarked, BkTook, PointsAt, BkPointsAt}
+use Rattle.claims_places.proofs.FieldTexts.{key-fields, sealed-fields, input-fields, end-fields, points-begun, points-over}
+use Rattle.claims_places.proofs.Between.{between-none, between-more, between-one, between-whole, between-append, field-fault, onward-fault, last-fault, no-fault, Halts, halts-begins}
+use Rattle.claims_places.proofs.Stages.{halts-first, ArePair, pair-halts, someSealed, sealed-good, sealed-halts, someInputs, inputs-good, inputs-halts, noEnd, no-end-good, EndFault, halted, over, second, end-faults}
 
 -- ---- keys at hand, for what stands behind a place
 
@@ -142,7 +131,7 @@ module _ (restricted : Bool) (s : List ℕ) (start : ℕ) (f : Fault) where
     keys-between = between-whole s start (keysText k) kr (keyFields k) (key-fields k) kw
 
     -- the second key's field
-    second-between : Between s start (start + length (typeText (k .type)) + length (keyText (k .first))) (typeText (k .type) ∷ keyText (k .first) ∷ [])
+    pub second-between : Between s start (start + length (typeText (k .type)) + length (keyText (k .first))) (typeText (k .type) ∷ keyText (k .first) ∷ [])
     second-between =
         let w₁ = kw ∙ append-assoc (typeText (k .type)) (keyText (k .first) ++ keyText (k .second)) kr in
         between-more s start _ (typeText (k .type)) _ _ w₁ (between-one s (start + length (typeText (k .type))) (keyText (k .first)) _
@@ -172,7 +161,7 @@ module _ (restricted : Bool) (s : List ℕ) (start : ℕ) (f : Fault) where
           abbrev ten : List (List ℕ)
           ten = nine ++ weakFields w
 
-          weak-between : Between s start at₁₁ ten
+          pub weak-between : Between s start at₁₁ ten
           weak-between = between-append s start at₁₀ at₁₁ nine (weakFields w) inputs-between (between-one s at₁₀ (optionalText markOfWeakList weakText w) wr ww)
 
           bk-good : (e : EndFields) → AreEnd e → AreBk restricted (bkWith k b i w e)

@@ -1,19 +1,20 @@
 -- Texts one behind the other, and the faults of fields and stages.
 -- Assumes nothing.
-use Prim.Native.Nat.{ℕ, zero, suc, _+_, _-_, _≤_, _<_}
-use native.Mathlib.Nat.{add-assoc, add-zero, zero-add, suc-add}
+use Prim.Native.Nat.{ℕ, _+_, _-_, _≤_, _<_}
+use native.Mathlib.Nat.{add-assoc, add-zero}
 use native.Mathlib.Omega.{arith}
 use mathlib.Core.Path.{_≡_, refl, sym, ap, ap₂, _∙_, subst}
 use mathlib.Core.List.{List, [], _∷_, _++_, append-assoc}
-use lib.ListN.{length, take, drop, length-append}
+use lib.ListN.{length, take, drop, length-append, length-drop, take-append-drop}
+use lib.Seq.{take-append-add, take-append-le, drop-append-le, length-take-le}
 use Rattle.numbers.specs.Numbers.{done, refused}
-use Rattle.numbers.specs.declared.Refusal.{Refusal}
 use Rattle.fields.specs.Fields.{Found, Stage, read, faulty, field, fielded, onward}
 use Rattle.fields.specs.declared.Fault.{Fault}
 use Rattle.texts.specs.Texts.{together}
 use Rattle.texts.specs.Exact.{Writing, Exact, ExactAt}
 use Rattle.texts.proofs.Closing.{past-text}
-use Rattle.claims_places.specs.Begins.{Between, Begins}
+use Rattle.texts.proofs.Runs.{fronts}
+use Rattle.claims_places.specs.Begins.{Between, Begins, SharedAlike}
 
 -- ---- texts between two places
 
@@ -47,6 +48,21 @@ between-whole s at t rest ts same e = record {
   bytes = e ∙ ap₂ _++_ same (sym (past-text s at t rest e));
   reached = ap (λ (l : List ℕ). at + length l) same;
 }
+
+-- so of every command that shares the bytes before the place
+pub between-shared : (s t : List ℕ) (start place : ℕ) (ts : List (List ℕ)) → place ≤ length t → take place s ≡ take place t → Between s start place ts → Between t start place ts
+between-shared s t start place ts h e b =
+    let reached = b .reached in
+    let there : length (take place t) ≡ place = length-take-le place t h in
+    let here : length (take place s) ≡ place = ap length e ∙ there in
+    let split : (u : List ℕ) → length (take place u) ≡ place → drop start u ≡ drop start (take place u) ++ drop place u =
+    λ u l. ap (drop start) (sym (take-append-drop place u)) ∙ drop-append-le start (take place u) (drop place u) (omega arith) in
+    let long : length (drop start (take place s)) ≡ length (together ts) = length-drop start (take place s) ∙ omega arith in
+    let front = fronts (length (together ts)) (drop start (take place s)) (together ts) (drop place s) (drop place s) long refl (sym (split s here) ∙ b .bytes) in
+    record { bytes = split t there ∙ ap (λ (l : List ℕ). l ++ drop place t) (ap (drop start) (sym e) ∙ front .0); reached = b .reached }
+
+pub shared-alike : SharedAlike
+shared-alike P Are texts s t start place n h e (p, good, b) = (p, good, between-shared s t start place (take n (texts p)) h e b)
 
 -- ---- faults
 
@@ -95,16 +111,6 @@ pub record Halts {P : Type 0} (Are : P → Type 0) (texts : P → List (List ℕ
   pub field : f .field ≡ first + count
   pub between : Between s at (f .place) (take count (texts parts))
 
--- so many of the first, and then some of the others
-pub take-behind : (ts us vs : List (List ℕ)) (n : ℕ) → n ≤ length us → take (length ts + n) (ts ++ (us ++ vs)) ≡ ts ++ take n us
-take-behind [] us vs n h = rw (zero-add n) (within us n h)
-  where
-    within : (us : List (List ℕ)) (n : ℕ) → n ≤ length us → take n (us ++ vs) ≡ take n us
-    within us zero h = refl
-    within [] (suc n) h = absurd (omega arith)
-    within (u ∷ us) (suc n) h = ap (λ (l : List (List ℕ)). u ∷ l) (within us n (omega arith))
-take-behind (t ∷ ts) us vs n h = rw (suc-add (length ts) n) (ap (λ (l : List (List ℕ)). t ∷ l) (take-behind ts us vs n h))
-
 -- a command halts where its stage does: before it stand some texts, and its parts hold those and the stage's
 pub halts-begins :
     {P Q : Type 0} (Are : P → Type 0) (texts : P → List (List ℕ)) (AreQ : Q → Type 0) (textsQ : Q → List (List ℕ)) (first : ℕ) (s : List ℕ) (start at : ℕ) (f : Fault)
@@ -115,6 +121,6 @@ halts-begins Are texts AreQ textsQ first s start at f ts more b h counted p good
     let field = h .field in
     let short = h .short in
     let before : f .field - 1 ≡ length ts + h .count = omega arith in
-    let taken : take (f .field - 1) (texts p) ≡ ts ++ take (h .count) (textsQ (h .parts)) = ap₂ take before same ∙ take-behind ts (textsQ (h .parts)) more (h .count) (omega arith) in
+    let taken : take (f .field - 1) (texts p) ≡ ts ++ take (h .count) (textsQ (h .parts)) = ap₂ take before same ∙ take-append-add ts (textsQ (h .parts) ++ more) (h .count) ∙ ap (λ (l : List (List ℕ)). ts ++ l) (take-append-le (h .count) (textsQ (h .parts)) more (omega arith)) in
     let long : length (texts p) ≡ length ts + (length (textsQ (h .parts)) + length more) = ap length same ∙ length-append ts (textsQ (h .parts) ++ more) ∙ ap (λ (n : ℕ). length ts + n) (length-append (textsQ (h .parts)) more) in
     (omega arith, omega arith, (p, good, subst (Between s start (f .place)) (sym taken) (between-append s start at (f .place) ts _ b (h .between))))

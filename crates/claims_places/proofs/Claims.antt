@@ -16,7 +16,7 @@ use Rattle.numbers.proofs.Laws.{then-done}
 use Rattle.numbers.specs.declared.Refusal.{Refusal}
 use Rattle.numbers.specs.declared.Refusal.the-variants.{PinKeyParity10, PvkParity11, Field15, Room901, Frame902}
 use Rattle.settings.specs.declared.Settings.{Settings}
-use Rattle.frame.specs.Frame.{isFramed, framed, codeOf}
+use Rattle.frame.specs.Frame.{isFramed, codeOf}
 use Rattle.frame.specs.declared.Code.{Code}
 use Rattle.frame.specs.declared.Code.the-variants.{Bk, Da, Ea, Other}
 use Rattle.fields.specs.Fields.{Stage, read, faulty, Ruling, ruled, pointing, unpointed, heard, shown, outcome}
@@ -24,8 +24,7 @@ use Rattle.fields.proofs.Reading.{ruled-read}
 use Rattle.fields.proofs.Rulings.{pointing-done}
 use Rattle.fields.specs.declared.Fault.{Fault}
 use Rattle.keybox.specs.KeyBox.{slices, parities, boxed}
-use Rattle.pins.specs.Pins.{sized}
-use Rattle.responses.specs.Responses.{Payload, answering, responding}
+use Rattle.responses.specs.Responses.{answering, responding}
 use Rattle.bkfields.specs.BkFields.{bkFields}
 use Rattle.bkfields.specs.declared.Bk as bk
 use Rattle.bkfinish.specs.BkFinish.{bkFinish}
@@ -37,7 +36,7 @@ use Rattle.places.specs.Places.{RulesShort}
 use Rattle.places.proofs.Calls.{asking-rules, replying-rules}
 use Rattle.claims_blocks.specs.Promises.{listed}
 use Rattle.claims_blocks.proofs.Judged.{Only, then-only, test-only, done-only}
-use Rattle.claims_commands.specs.Runs.{codeIn, pairIn, comparedIn, Verifying, terminal, zone, codeFor, keyFor}
+use Rattle.claims_commands.specs.Runs.{codeIn, pairIn, comparedIn, Verifying, terminal, zone, keyFor}
 use Rattle.claims_commands.proofs.Fields.{In, wider, fields-give, verify-fields-give, fieldNumbers, sharedNumbers}
 use Rattle.claims_commands.proofs.Shapes.{Shape, pair-only}
 use Rattle.claims_commands.proofs.Listing.{bkShape}
@@ -48,7 +47,7 @@ use Rattle.texts_keys.specs.KeyTexts.{terminalKeyRule, zoneKeyRule}
 use Rattle.claims_exactly.specs.VerifyText.{pinKeyRuleOf}
 use Rattle.claims_places.specs.FieldTexts.{bkFieldTexts, verifyFieldTexts}
 use Rattle.claims_places.specs.Begins.{AreBk, AreVerify, BkTook, VerifyTook, PointsAt}
-use Rattle.claims_places.specs.Claims.{numberIn, OneFault, AtNothing, InCommand, AtFields, atTheEnd, SlicesShort, AskPoints, AnswerPoints, BothPointAlike, SlicesAtTheEnd, PlaceInside}
+use Rattle.claims_places.specs.Claims.{numberIn, OneFault, AtNothing, InCommand, atTheEnd, SlicesShort, AskPoints, AnswerPoints, BothPointAlike, SlicesAtTheEnd, PlaceInside}
 use Rattle.claims_places.proofs.Begins.{bk-points-at}
 use Rattle.claims_places.proofs.VerifyBegins.{verify-points-at}
 

@@ -3,8 +3,7 @@
 use Prim.Native.Nat.{ℕ, _-_, _≤_}
 use native.Mathlib.Omega.{arith}
 use mathlib.Core.Path.{_≡_, refl, sym, ap, ap₂, _∙_}
-use mathlib.Core.List.{List, [], _∷_, _++_, append-assoc, append-nil}
-use lib.ListN.{length}
+use mathlib.Core.List.{List, _∷_, _++_, append-assoc, append-nil}
 use Rattle.fields.specs.declared.Fault.{Fault}
 use Rattle.texts.specs.Texts.{asTwoDigits, optionalText, trailerText, together}
 use Rattle.texts_keys.specs.KeyTexts.{typeText, keyText, idText}

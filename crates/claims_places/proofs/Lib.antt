@@ -3,4 +3,5 @@ pub mod FieldTexts
 pub mod Stages
 pub mod Begins
 pub mod VerifyBegins
+pub mod Ids
 pub mod Claims

@@ -6,21 +6,18 @@ use native.Mathlib.Nat.{add-zero}
 use native.Mathlib.Omega.{arith}
 use mathlib.Core.Path.{_≡_, refl, sym, ap, _∙_, subst}
 use mathlib.Core.Logic.{inl, inr}
-use mathlib.Core.List.{List, [], _∷_, _++_, append-nil}
+use mathlib.Core.List.{List, [], _∷_, _++_}
 use mathlib.Core.Bool.{Bool, true, false, cond}
 use lib.ListN.{length, take, drop, replicate, length-drop}
 use lib.Dec.{leb}
 use borrow.Author.Tests.{leb-false}
-use Rattle.alphabet.specs.Alphabet.{allOf, begins}
+use Rattle.alphabet.specs.Alphabet.{allOf}
 use Rattle.alphabet.specs.declared.Class.the-variants.{Digit, CapitalHex}
-use Rattle.numbers.specs.Numbers.{done}
 use Rattle.numbers.specs.declared.Refusal.the-variants.{Field15, Table25}
 use Rattle.formats.specs.declared.Format.the-variants.{F01}
 use Rattle.fields.specs.Fields.{Stage, read, faulty, run, number, trailer}
 use Rattle.fields.specs.declared.Fault.{Fault}
 use Rattle.lmk.specs.Lmk.{lmkField, present}
-use Rattle.lmk.specs.declared.Lmk.{Lmk}
-use Rattle.lmk.specs.declared.Lmk.the-variants as lmk
 use Rattle.uses.specs.declared.Use.{Use}
 use Rattle.keys.specs.Keys.{key}
 use Rattle.keys.specs.declared.Letters.{Letters}

@@ -1,55 +1,45 @@
 -- The fault of a DA or an EA points at the field that begins there, or at the first byte that no field took.
 -- Assumes nothing.
-use Prim.Native.Nat.{ℕ, suc, _+_, _-_, _≤_, _<_}
+use Prim.Native.Nat.{ℕ, _+_}
 use Prim.Native.Char.{code}
 use native.Mathlib.Omega.{arith}
-use mathlib.Core.Path.{_≡_, refl, sym, ap, ap₂, _∙_, subst}
-use mathlib.Core.Logic.{inl, inr}
+use mathlib.Core.Path.{_≡_, refl, sym, ap₂, _∙_, subst}
 use mathlib.Core.List.{List, [], _∷_, _++_, append-assoc, append-nil}
-use mathlib.Core.Bool.{Bool}
-use lib.ListN.{length, take, drop, replicate}
+use lib.ListN.{length, drop, replicate}
 use Rattle.alphabet.specs.Alphabet.{allOf}
 use Rattle.numbers.specs.declared.Refusal.the-variants.{Field15}
 use Rattle.fields.specs.Fields.{faulty, number}
 use Rattle.fields.specs.declared.Fault.{Fault}
 use Rattle.uses.specs.Uses.{pinKey, pvk, verifyingPvk}
 use Rattle.uses.specs.declared.Use.{Use}
-use Rattle.keys.specs.Keys.{keyType, anyLetter}
+use Rattle.keys.specs.Keys.{anyLetter}
 use Rattle.keyfields.specs.KeyFields.{keyPair, keys}
 use Rattle.keyfields.specs.declared.Keys.{Keys}
 use Rattle.sealed.specs.Sealed.{sealed}
 use Rattle.offsetting.specs.Offsetting.{offsetting}
 use Rattle.offsetfield.specs.OffsetField.{offsetField}
-use Rattle.weakfield.specs.WeakField.{weakField}
-use Rattle.weaklist.specs.WeakList.{weak}
 use Rattle.endings.specs.Endings.{end}
-use Rattle.bkfields.specs.BkFields.{weakMark, bkFields}
 use Rattle.verifyfields.specs.VerifyFields.{maximum, restricted, front, verifyFields}
-use Rattle.texts.specs.Characters.{printed}
-use Rattle.texts.specs.Texts.{Optional, absent, present, WherePresent, asTwoDigits, optionalText, trailerText, together}
 use Rattle.texts.specs.Exact.{Writing, ExactAt}
 use Rattle.texts.specs.Joining.{joined, mapped}
-use Rattle.texts.proofs.Closing.{past-text, onward-exact, field-last}
-use Rattle.texts_keys.specs.KeyTexts.{KeyType, is001, is002, isFFF, typeText, KeyRule, KeyBlock, IsBlock, Key, double, block, keyText, IsKey, idText}
-use Rattle.texts_keys.specs.KeyWritings.{types, lettersOf, ruleFor}
-use Rattle.texts_keys.proofs.KeyFields.{type-exact, wanted-admitted, letter-admitted}
-use Rattle.texts_data.specs.DataTexts.{validationText, WeakList, weakText, IsWeakList, markOfWeakList, maximumText, presentedText, IsPresented}
-use Rattle.texts_data.specs.DataWritings.{weakFine, weakLists, maxima, offsets}
-use Rattle.texts_data.proofs.WeakLists.{weak-exact}
+use Rattle.texts.proofs.Closing.{onward-exact, field-last}
+use Rattle.texts_keys.specs.KeyTexts.{KeyRule, Key, double, block, keyText, IsKey}
+use Rattle.texts_keys.proofs.KeyFields.{letter-admitted}
+use Rattle.texts_data.specs.DataTexts.{maximumText, presentedText, IsPresented}
+use Rattle.texts_data.specs.DataWritings.{maxima, offsets}
 use Rattle.texts_data.proofs.Maximum.{maximum-exact}
 use Rattle.texts_data.proofs.Offsets.{offset-exact}
-use Rattle.texts_stages.specs.StageTexts.{PairFields, pairText, KeyFields, keysText, AreKeys, SealedFields, sealedText, AreSealed, InputFields, inputsText, AreInputs, EndFields, endText, AreEnd}
-use Rattle.texts_stages.specs.StageWritings.{pairAt, keysAt, sealedAt, inputsAt}
-use Rattle.texts_stages.proofs.Stages.{pair-exact, keys-exact, sealed-exact, inputs-exact, weak-stage-exact}
+use Rattle.texts_stages.specs.StageTexts.{PairFields, pairText, SealedFields, sealedText, AreSealed, InputFields, inputsText, AreInputs, EndFields, AreEnd}
+use Rattle.texts_stages.specs.StageWritings.{pairAt, sealedAt, inputsAt}
+use Rattle.texts_stages.proofs.Stages.{pair-exact, sealed-exact, inputs-exact}
 use Rattle.claims_commands.specs.Runs.{Verifying, keyFor}
-use Rattle.claims_exactly.specs.BkText.{BkParts, bkText}
-use Rattle.claims_exactly.specs.VerifyText.{pinKeyRuleOf, VerifyParts, verifyText, IsOwnKey}
+use Rattle.claims_exactly.specs.VerifyText.{pinKeyRuleOf, VerifyParts}
 use Rattle.claims_exactly.proofs.VerifyFields.{key-ruled}
-use Rattle.claims_places.specs.FieldTexts.{pairFields, keyFields, sealedFields, inputFields, endFields, bkFieldTexts, verifyFieldTexts, TextsAreFields}
-use Rattle.claims_places.specs.Begins.{Between, Begins, AreBk, AreVerify, Unmarked, EndTook, LeftOver, BkTook, VerifyTook, PointsAt, BkPointsAt, VerifyPointsAt}
-use Rattle.claims_places.proofs.FieldTexts.{pair-fields, key-fields, sealed-fields, input-fields, end-fields, points-begun, points-over}
-use Rattle.claims_places.proofs.Between.{between-none, between-more, between-one, between-whole, between-append, together-append, field-fault, onward-fault, last-fault, no-fault, Halts, halts-begins}
-use Rattle.claims_places.proofs.Stages.{halts-at, halts-first, ArePair, pair-halts, someSealed, sealed-good, sealed-halts, someInputs, inputs-good, inputs-halts, noEnd, no-end-good, EndFault, halted, over, second, end-faults}
+use Rattle.claims_places.specs.FieldTexts.{pairFields, sealedFields, inputFields, endFields, verifyFieldTexts}
+use Rattle.claims_places.specs.Begins.{Between, AreVerify, VerifyTook, PointsAt, VerifyPointsAt}
+use Rattle.claims_places.proofs.FieldTexts.{pair-fields, sealed-fields, input-fields, points-begun, points-over}
+use Rattle.claims_places.proofs.Between.{between-none, between-one, between-whole, between-append, together-append, field-fault, onward-fault, last-fault, no-fault, Halts, halts-begins}
+use Rattle.claims_places.proofs.Stages.{halts-first, ArePair, pair-halts, someSealed, sealed-good, sealed-halts, someInputs, inputs-good, inputs-halts, noEnd, no-end-good, EndFault, halted, over, second, end-faults}
 
 -- ---- keys at hand, for what stands behind a place
 
@@ -65,10 +55,10 @@ zero-keys-good use₁ = ((refl, (refl, refl)), (refl, (refl, refl)))
 
 -- ---- what stands before the block, as a text
 
-abbrev frontAt : Use → ℕ → Writing Keys
+abbrev pub frontAt : Use → ℕ → Writing Keys
 frontAt use₁ at = joined at (pairAt 1 anyLetter use₁ anyLetter verifyingPvk at) (λ ks _. mapped (λ _. ks) maxima)
 
-front-exact : (use₁ : Use) (s : List ℕ) (at : ℕ) → ExactAt s at (front use₁ s at) (frontAt use₁ at)
+pub front-exact : (use₁ : Use) (s : List ℕ) (at : ℕ) → ExactAt s at (front use₁ s at) (frontAt use₁ at)
 unfolding front
 front-exact use₁ s at =
     onward-exact s at (pairAt 1 anyLetter use₁ anyLetter verifyingPvk at) _ (λ ks _. mapped (λ _. ks) maxima) (keyPair 1 anyLetter use₁ anyLetter verifyingPvk s at) (pair-exact 1 anyLetter use₁ anyLetter verifyingPvk s at)
@@ -143,7 +133,7 @@ module _ (w : Verifying) (s : List ℕ) (start : ℕ) (f : Fault) where
     front-between = between-whole s start (pairText k ++ maximumText) kr three (ap₂ _++_ (pair-fields k) (sym (append-nil maximumText)) ∙ sym (together-append (pairFields k) (maximumText ∷ []))) kw
 
     -- the second key's field
-    second-between : Between s start (start + length (keyText (k .first))) (keyText (k .first) ∷ [])
+    pub second-between : Between s start (start + length (keyText (k .first))) (keyText (k .first) ∷ [])
     second-between = between-one s start (keyText (k .first)) _ (kw ∙ append-assoc (pairText k) maximumText kr ∙ append-assoc (keyText (k .first)) (keyText (k .second)) (maximumText ++ kr))
 
     module _ (b : SealedFields) (bg : AreSealed restricted b) (br : List ℕ) (bw : drop at₄ s ≡ sealedText b ++ br) where
@@ -170,7 +160,7 @@ module _ (w : Verifying) (s : List ℕ) (start : ℕ) (f : Fault) where
           abbrev ten : List (List ℕ)
           ten = nine ++ offsetFields o
 
-          offset-between : Between s start at₁₁ ten
+          pub offset-between : Between s start at₁₁ ten
           offset-between = between-append s start at₁₀ at₁₁ nine (offsetFields o) inputs-between (between-one s at₁₀ (presentedText o) or ow)
 
           verify-end : EndFault (frontAt (keyFor w) start .value (k, tt)) s at₁₁ f → VerifyThere

@@ -2,7 +2,7 @@
 -- has it. So a second time, by texts, what the readers say by going on.
 use Prim.Native.Nat.{ℕ, _+_, _-_, _≤_, _<_}
 use mathlib.Core.Path.{_≡_}
-use mathlib.Core.List.{List, [], _++_}
+use mathlib.Core.List.{List, _++_}
 use mathlib.Core.Bool.{Bool, false}
 use lib.ListN.{length, take, drop}
 use Rattle.alphabet.specs.Alphabet.{begins}
@@ -29,6 +29,11 @@ pub record Between (s : List ℕ) (start place : ℕ) (texts : List (List ℕ)) 
 -- field n + 1 begins at a place: before it stand the first n fields of a command, each as it must be
 abbrev pub Begins : {P : Type 0} → (P → Type 0) → (P → List (List ℕ)) → List ℕ → ℕ → ℕ → ℕ → Type 0
 Begins {P} Are texts s start place n = (p : P) × Are p × Between s start place (take n (texts p))
+
+-- so it does in every command that shares the bytes before the place, whatever stands from there on
+abbrev pub SharedAlike : Type 1
+SharedAlike = (P : Type 0) (Are : P → Type 0) (texts : P → List (List ℕ)) (s t : List ℕ) (start place n : ℕ) → place ≤ length t → take place s ≡ take place t
+    → Begins Are texts s start place n → Begins Are texts t start place n
 
 -- ---- commands, whatever their LMK ids: these are judged at the end
 

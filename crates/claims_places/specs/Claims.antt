@@ -14,7 +14,7 @@ use Rattle.frame.specs.declared.Code.the-variants.{Bk, Da, Ea, Other}
 use Rattle.fields.specs.Fields.{Ruling, pointerOf, nowhere, shown}
 use Rattle.fields.specs.declared.Fault.{Fault}
 use Rattle.commands.specs.Commands.{asking, asked, answered, replying}
-use Rattle.texts_keys.specs.KeyTexts.{KeyRule, terminalKeyRule, zoneKeyRule}
+use Rattle.texts_keys.specs.KeyTexts.{terminalKeyRule, zoneKeyRule}
 use Rattle.claims_blocks.specs.Promises.{listed}
 use Rattle.claims_commands.specs.Runs.{codeIn}
 use Rattle.claims_places.specs.FieldTexts.{bkFieldTexts, verifyFieldTexts}

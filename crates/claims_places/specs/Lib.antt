@@ -1,3 +1,4 @@
 pub mod FieldTexts
 pub mod Begins
+pub mod Ids
 pub mod Claims

@@ -27,7 +27,7 @@ use Rattle.bk.specs.Bk.{bkAsk, bkAnswer}
 use Rattle.verifyfields.specs.VerifyFields.{verifyFields}
 use Rattle.verifyfinish.specs.VerifyFinish.{verifyFinish}
 use Rattle.verify.specs.Verify.{verifyAsk, verifyAnswer}
-use Rattle.commands.specs.Commands.{askBy, answerBy, opened, asking, commanded, replying}
+use Rattle.commands.specs.Commands.{askBy, answerBy, opened, asking, replying}
 use Rattle.places.specs.Places.{StaysIn, RulesIn, RulesShort}
 use Rattle.places.proofs.Stages.{Any, bk-stays, verify-stays}
 

@@ -11,7 +11,7 @@ use borrow.Author.Tests.{leb-true}
 use Rattle.alphabet.specs.Alphabet.{admits, begins}
 use Rattle.alphabet.specs.declared.Class.{Class}
 use Rattle.alphabet.specs.declared.Class.the-variants.{CapitalHex, Printable}
-use Rattle.numbers.specs.Numbers.{done, refused, unless}
+use Rattle.numbers.specs.Numbers.{done, refused}
 use Rattle.numbers.specs.declared.Refusal.{Refusal}
 use Rattle.numbers.specs.declared.Refusal.the-variants.{Field15, Key26, NotHere69}
 use Rattle.numbers.proofs.Laws.{then-done, passed, value-of}
@@ -25,7 +25,7 @@ use Rattle.lmk.specs.declared.Lmk.the-variants.{Absent}
 use Rattle.uses.specs.declared.Use.{Use}
 use Rattle.keylengths.proofs.Laws.{length-found}
 use Rattle.keyblocks.specs.KeyBlocks.{keyBlock}
-use Rattle.keyblocks.proofs.Laws.{block-long, block-found}
+use Rattle.keyblocks.proofs.Laws.{block-found}
 use Rattle.keys.specs.Keys.{type001, type002, typeFFF, keyType, hexKey, lettered, key}
 use Rattle.keys.specs.declared.Letters.{Letters}
 use Rattle.keys.proofs.Texts.{begins-long}

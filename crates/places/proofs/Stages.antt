@@ -19,7 +19,6 @@ use Rattle.uses.specs.Uses.{pinKey, pvk, verifyingPvk}
 use Rattle.uses.specs.declared.Use.{Use}
 use Rattle.keys.specs.Keys.{keyType, key, anyLetter}
 use Rattle.keys.specs.declared.Letters.{Letters}
-use Rattle.weak.specs.declared.Weak.{Weak}
 use Rattle.weakfield.specs.WeakField.{weakField}
 use Rattle.weakfield.proofs.Laws.{weak-onward}
 use Rattle.formatfield.specs.FormatField.{formatField}
@@ -30,15 +29,11 @@ use Rattle.offsetfield.proofs.Laws.{offset-held}
 use Rattle.keyfields.specs.KeyFields.{keyPair, keys}
 use Rattle.keyfields.specs.declared.Keys.{Keys}
 use Rattle.sealed.specs.Sealed.{sealed}
-use Rattle.sealed.specs.declared.Sealed.{Sealed}
 use Rattle.offsetting.specs.Offsetting.{offsetting}
-use Rattle.offsetting.specs.declared.Offsetting.{Offsetting}
 use Rattle.weaklist.specs.WeakList.{weak}
 use Rattle.endings.specs.Endings.{allAgree, lastId, closed, end}
 use Rattle.bkfields.specs.BkFields.{weakMark, bkFields}
-use Rattle.bkfields.specs.declared.Bk.{Bk}
 use Rattle.verifyfields.specs.VerifyFields.{maximum, restricted, front, verifyFields}
-use Rattle.verifyfields.specs.declared.Verification.{Verification}
 use Rattle.places.specs.Places.{lastField, Points, StaysIn}
 use Rattle.places.proofs.Readers.{Takes, run-takes, number-takes, trailer-takes, type-takes, key-takes, format-takes}
 

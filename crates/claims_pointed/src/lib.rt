@@ -1,0 +1,1 @@
+// What the server is shown of refused commands, as tables of literals.
