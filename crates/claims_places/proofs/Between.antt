@@ -4,14 +4,14 @@ use Prim.Native.Nat.{ℕ, _+_, _-_, _≤_, _<_}
 use native.Mathlib.Nat.{add-assoc, add-zero}
 use native.Mathlib.Omega.{arith}
 use mathlib.Core.Path.{_≡_, refl, sym, ap, ap₂, _∙_, subst}
-use mathlib.Core.List.{List, [], _∷_, _++_, append-assoc}
+use mathlib.Core.List.{List, [], _∷_, _++_, append-assoc, append-nil}
 use lib.ListN.{length, take, drop, length-append, length-drop, take-append-drop}
 use lib.Seq.{take-append-add, take-append-le, drop-append-le, length-take-le}
 use Rattle.numbers.specs.Numbers.{done, refused}
 use Rattle.fields.specs.Fields.{Found, Stage, read, faulty, field, fielded, onward}
 use Rattle.fields.specs.declared.Fault.{Fault}
 use Rattle.texts.specs.Texts.{together}
-use Rattle.texts.specs.Exact.{Writing, Exact, ExactAt}
+use Rattle.texts.specs.Exact.{Writing, Opens, Exact, ExactAt}
 use Rattle.texts.proofs.Closing.{past-text}
 use Rattle.texts.proofs.Runs.{fronts}
 use Rattle.claims_places.specs.Begins.{Between, Begins, SharedAlike}
@@ -20,12 +20,6 @@ use Rattle.claims_places.specs.Begins.{Between, Begins, SharedAlike}
 
 pub between-none : (s : List ℕ) (at : ℕ) → Between s at at []
 between-none s at = record { bytes = refl; reached = sym (add-zero at) }
-
-pub between-more : (s : List ℕ) (at place : ℕ) (t rest : List ℕ) (ts : List (List ℕ)) → drop at s ≡ t ++ rest → Between s (at + length t) place ts → Between s at place (t ∷ ts)
-between-more s at place t rest ts e b = record {
-  bytes = e ∙ ap (λ (l : List ℕ). t ++ l) (sym (past-text s at t rest e) ∙ b .bytes) ∙ sym (append-assoc t (together ts) (drop place s));
-  reached = b .reached ∙ add-assoc at (length t) (length (together ts)) ∙ ap (λ (n : ℕ). at + n) (sym (length-append t (together ts)));
-}
 
 pub together-append : (ts us : List (List ℕ)) → together (ts ++ us) ≡ together ts ++ together us
 together-append [] us = refl
@@ -38,16 +32,18 @@ between-append s start at place ts us b d = record {
       ∙ ap (λ (n : ℕ). start + n) (sym (length-append (together ts) (together us)) ∙ ap length (sym (together-append ts us)));
 }
 
--- one text alone
-pub between-one : (s : List ℕ) (at : ℕ) (t rest : List ℕ) → drop at s ≡ t ++ rest → Between s at (at + length t) (t ∷ [])
-between-one s at t rest e = between-more s at (at + length t) t rest [] e (between-none s (at + length t))
-
 -- a text that is made of some
 pub between-whole : (s : List ℕ) (at : ℕ) (t rest : List ℕ) (ts : List (List ℕ)) → t ≡ together ts → drop at s ≡ t ++ rest → Between s at (at + length t) ts
 between-whole s at t rest ts same e = record {
   bytes = e ∙ ap₂ _++_ same (sym (past-text s at t rest e));
   reached = ap (λ (l : List ℕ). at + length l) same;
 }
+
+-- the first of them
+pub between-first : (s : List ℕ) (start place : ℕ) (ts us : List (List ℕ)) → Between s start place (ts ++ us) → Between s start (start + length (together ts)) ts
+between-first s start place ts us b =
+    between-whole s start (together ts) (together us ++ drop place s) ts refl
+    (b .bytes ∙ ap (λ (l : List ℕ). l ++ drop place s) (together-append ts us) ∙ append-assoc (together ts) (together us) (drop place s))
 
 -- so of every command that shares the bytes before the place
 pub between-shared : (s t : List ℕ) (start place : ℕ) (ts : List (List ℕ)) → place ≤ length t → take place s ≡ take place t → Between s start place ts → Between t start place ts
@@ -66,29 +62,38 @@ shared-alike P Are texts s t start place n h e (p, good, b) = (p, good, between-
 
 -- ---- faults
 
--- a field's own fault, or one behind it, where the field is some text
+-- what comes of a part that was read: it is fine before what stands behind it, its fields stand between the places, and the fault lies behind
+abbrev Behind : {A : Type 0} → (w : Writing A) → (w .Part → List (List ℕ)) → List ℕ → ℕ → (A → ℕ → Type 0) → Type 0 → Type 0
+Behind w texts s at next C = (p : w .Part) (past : ℕ) → w .fine p (drop past s) → Between s at past (texts p) → next (w .value p) past → C
+
+-- a part that opens what is ahead
+opened : {A C : Type 0} (w : Writing A) (texts : w .Part → List (List ℕ)) (whole : (p : w .Part) → w .text p ≡ together (texts p)) (s : List ℕ) (at n past : ℕ) (a : A) (next : A → ℕ → Type 0)
+    → Opens w (drop at s) n a → past ≡ at + n → next a past → Behind w texts s at next C → C
+opened {A} {C} w texts whole s at n past a next o reached g behind =
+    let p = o .part in
+    let end : past ≡ at + length (w .text p) = reached ∙ ap (λ (k : ℕ). at + k) (o .count) in
+    let rest : o .rest ≡ drop past s = sym (past-text s at (w .text p) (o .rest) (o .whole)) ∙ ap (λ (k : ℕ). drop k s) (sym end) in
+    behind p past (subst (w .fine p) rest (o .good)) (subst (λ (k : ℕ). Between s at k (texts p)) (sym end) (between-whole s at (w .text p) (o .rest) (texts p) (whole p) (o .whole)))
+    (subst (λ (x : A). next x past) (o .same) g)
+
+-- a field's own fault, or one behind it
 pub field-fault : {A B C : Type 0} (k : ℕ) (reader : List ℕ → Found A) (w : Writing A) (x : Exact reader w) (s : List ℕ) (at : ℕ) (next : A → ℕ → Stage B) (f : Fault)
-    → field k reader s at next ≡ faulty f → ((f .field ≡ k) × (f .place ≡ at) → C)
-    → ((p : w .Part) (rest : List ℕ) → w .fine p rest → drop at s ≡ w .text p ++ rest → next (w .value p) (at + length (w .text p)) ≡ faulty f → C) → C
+    → field k reader s at next ≡ faulty f → ((f .field ≡ k) × (f .place ≡ at) → C) → Behind w (λ p. w .text p ∷ []) s at (λ a past. next a past ≡ faulty f) C → C
 field-fault {A} {B} {C} k reader w x s at next f e own behind = by-found (reader (drop at s)) refl e
   where
     by-found : (o : Found A) → reader (drop at s) ≡ o → fielded k at o next ≡ faulty f → C
     by-found (done r) h g =
-        let o = x .only (drop at s) (r .0) (r .1) h in
-        behind (o .part) (o .rest) (o .good) (o .whole) (ap₂ (λ (a : A) (n : ℕ). next a (at + n)) (sym (o .same)) (sym (o .count)) ∙ g)
+        opened w (λ p. w .text p ∷ []) (λ p. sym (append-nil (w .text p))) s at (r .1) (at + r .1) (r .0) (λ a past. next a past ≡ faulty f) (x .only (drop at s) (r .0) (r .1) h) refl g behind
     by-found (refused q) h g = let same : record { refusal = q; field = k; place = at } ≡ f = cc in own (sym (ap (λ (y : Fault). y .field) same), sym (ap (λ (y : Fault). y .place) same))
 
--- a stage's own fault, or one behind it
-pub onward-fault : {A B C : Type 0} (s : List ℕ) (at : ℕ) (stage : Stage A) (w : Writing A) (x : ExactAt s at stage w) (next : A → ℕ → Stage B) (f : Fault)
-    → onward stage next ≡ faulty f → (stage ≡ faulty f → C)
-    → ((p : w .Part) (rest : List ℕ) → w .fine p rest → drop at s ≡ w .text p ++ rest → next (w .value p) (at + length (w .text p)) ≡ faulty f → C) → C
-onward-fault {A} {B} {C} s at stage w x next f e own behind = by-stage stage refl e
+-- a stage's own fault, or one behind it, where its text is that of some fields
+pub onward-fault : {A B C : Type 0} (s : List ℕ) (at : ℕ) (stage : Stage A) (w : Writing A) (x : ExactAt s at stage w) (texts : w .Part → List (List ℕ)) (whole : (p : w .Part) → w .text p ≡ together (texts p))
+    (next : A → ℕ → Stage B) (f : Fault)
+    → onward stage next ≡ faulty f → (stage ≡ faulty f → C) → Behind w texts s at (λ a past. next a past ≡ faulty f) C → C
+onward-fault {A} {B} {C} s at stage w x texts whole next f e own behind = by-stage stage refl e
   where
     by-stage : (o : Stage A) → stage ≡ o → onward o next ≡ faulty f → C
-    by-stage (read a past) h g =
-        let r = x .only a past h in
-        let o = r .2 in
-        behind (o .part) (o .rest) (o .good) (o .whole) (ap₂ next (sym (o .same)) (sym (r .1 ∙ ap (λ (n : ℕ). at + n) (o .count))) ∙ g)
+    by-stage (read a past) h g = let r = x .only a past h in opened w texts whole s at (r .0) past a (λ b end. next b end ≡ faulty f) (r .2) (r .1) g behind
     by-stage (faulty g) h k = let same : g ≡ f = cc in own (h ∙ ap faulty same)
 
 -- what was read is no fault

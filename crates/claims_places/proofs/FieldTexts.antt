@@ -1,10 +1,8 @@
--- The texts of stages and commands, field by field, and what a fault points at.
+-- The texts of stages and commands, field by field.
 -- Assumes nothing.
-use Prim.Native.Nat.{ℕ, _-_, _≤_}
-use native.Mathlib.Omega.{arith}
+use Prim.Native.Nat.{ℕ}
 use mathlib.Core.Path.{_≡_, refl, sym, ap, ap₂, _∙_}
 use mathlib.Core.List.{List, _∷_, _++_, append-assoc, append-nil}
-use Rattle.fields.specs.declared.Fault.{Fault}
 use Rattle.texts.specs.Texts.{asTwoDigits, optionalText, trailerText, together}
 use Rattle.texts_keys.specs.KeyTexts.{typeText, keyText, idText}
 use Rattle.texts_data.specs.DataTexts.{validationText, weakText, markOfWeakList, maximumText, presentedText}
@@ -12,7 +10,6 @@ use Rattle.texts_stages.specs.StageTexts.{PairFields, pairText, KeyFields, keys
 use Rattle.claims_exactly.specs.BkText.{BkParts, bkText}
 use Rattle.claims_exactly.specs.VerifyText.{VerifyParts, verifyText}
 use Rattle.claims_places.specs.FieldTexts.{pairFields, keyFields, sealedFields, inputFields, endFields, bkFieldTexts, verifyFieldTexts, TextsAreFields}
-use Rattle.claims_places.specs.Begins.{Begins, LeftOver, PointsAt}
 use Rattle.claims_places.proofs.Between.{together-append}
 
 -- ---- the texts of stages, field by field
@@ -31,15 +28,6 @@ input-fields p = ap (λ (l : List ℕ). asTwoDigits (p .check) ++ (p .account ++
 
 pub end-fields : (p : EndFields) → endText p ≡ together (endFields p)
 end-fields p = ap (λ (l : List ℕ). idText (p .id) ++ l) (sym (append-nil (trailerText (p .trailer))))
-
--- ---- what a fault points at
-
-module _ {P : Type 0} (Are : P → Type 0) (texts : P → List (List ℕ)) (Took : P → List ℕ → Type 0) (s : List ℕ) (start : ℕ) (f : Fault) where
-  pub points-begun : (n : ℕ) → n ≡ 12 → (1 ≤ f .field) × (f .field ≤ n) × Begins Are texts s start (f .place) (f .field - 1) → PointsAt Are texts Took s start f
-  points-begun n twelve (least, most, b) = record { begins = λ _. (omega arith, b); over = λ z. absurd (omega arith) }
-
-  pub points-over : f .field ≡ 0 → LeftOver Are texts Took s start (f .place) → PointsAt Are texts Took s start f
-  points-over z l = record { begins = λ h. absurd (omega arith); over = λ _. l }
 
 -- ---- the fields together are the command
 

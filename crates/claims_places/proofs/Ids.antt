@@ -10,7 +10,6 @@ use lib.ListN.{length, take, drop, length-drop}
 use Rattle.alphabet.specs.Alphabet.{begins}
 use Rattle.numbers.specs.declared.Refusal.the-variants.{Field15}
 use Rattle.fields.specs.Fields.{faulty, trailer}
-use Rattle.fields.specs.declared.Fault.{Fault}
 use Rattle.uses.specs.Uses.{pinKey, pvk, verifyingPvk}
 use Rattle.keys.specs.Keys.{anyLetter}
 use Rattle.keyfields.specs.KeyFields.{keys}
@@ -36,13 +35,15 @@ use Rattle.claims_commands.specs.Runs.{Verifying, keyFor}
 use Rattle.claims_exactly.specs.BkText.{BkParts, bkText, bkIds}
 use Rattle.claims_exactly.specs.VerifyText.{VerifyParts, verifyText, verifyIds, pinKeyRuleOf}
 use Rattle.claims_exactly.proofs.VerifyFields.{key-ruled}
-use Rattle.claims_places.specs.FieldTexts.{bkFieldTexts, verifyFieldTexts}
+use Rattle.claims_places.specs.FieldTexts.{keyFields, sealedFields, inputFields, bkFieldTexts, verifyFieldTexts}
 use Rattle.claims_places.specs.Begins.{AreBk, AreVerify}
 use Rattle.claims_places.specs.Ids.{lastPresent, bkLast, verifyLast, at, IdsPointAtTheLast}
 use Rattle.claims_places.proofs.Stages.{ArePair}
-use Rattle.claims_places.proofs.Begins.{second-between, weak-between}
+use Rattle.claims_places.proofs.Between.{between-append, between-whole}
+use Rattle.claims_places.proofs.FieldTexts.{key-fields, sealed-fields, input-fields}
+use Rattle.claims_places.proofs.Begins.{second-at}
 use Rattle.claims_places.proofs.VerifyBegins as verifying
-use Rattle.claims_places.proofs.VerifyBegins.{frontAt, front-exact, offset-between}
+use Rattle.claims_places.proofs.VerifyBegins.{frontAt, front-exact, frontFields, front-fields}
 
 -- ---- the end
 
@@ -141,7 +142,9 @@ bk-ids limited s start p g w differ =
     let w₁₀ = past-text s at₆ (inputsText (p .inputs)) _ w₆ in
     let w₁₁ = past-text s at₁₀ weakly _ w₁₀ in
     let fine = weak-fine (p .weak) (p .end .id) (p .end .trailer) (g .weak) in
-    let none : Fault = record { refusal = Field15; field = 0; place = 0 } in
+    let five = between-append s start at₄ at₆ (keyFields (p .keys)) (sealedFields (p .sealed)) (between-whole s start (keysText (p .keys)) _ _ (key-fields (p .keys)) w) (between-whole s at₄ (sealedText (p .sealed)) _ _ (sealed-fields (p .sealed)) w₄) in
+    let nine = between-append s start at₆ at₁₀ _ (inputFields (p .inputs)) five (between-whole s at₆ (inputsText (p .inputs)) _ _ (input-fields (p .inputs)) w₆) in
+    let ten = between-append s start at₁₀ at₁₁ _ (weakly ∷ []) nine (between-whole s at₁₀ weakly _ (weakly ∷ []) (sym (append-nil weakly)) w₁₀) in
     rw (
       keys-exact 1 pinKey pvk s start .back (p .keys) _ (g .keys) w,
       sealed-exact 4 limited s at₄ .back (p .sealed) _ (g .sealed) w₄,
@@ -150,8 +153,7 @@ bk-ids limited s start p g w differ =
       end-apart (keysAt 1 pinKey pvk start .value (p .keys)) s at₁₁ (p .end) (g .end) w₁₁ (λ same. differ (ids-read (p .keys .first) (p .keys .second) (p .end .id) same)),
     )
     (ap faulty (last-fault-is start 2 3 at₁₁ _ (bkFieldTexts p) (p .keys .first) (p .keys .second) (keysAt 1 pinKey pvk start .value (p .keys)) (p .end .id) refl refl
-    (weak-between limited s start none (p .keys) (g .keys) _ w (p .sealed) (g .sealed) _ w₄ (p .inputs) (g .inputs) _ w₆ (p .weak) _ fine w₁₀ .reached)
-    (second-between limited s start none (p .keys) (g .keys) _ w .reached) differ))
+    (ten .reached) (second-at start (p .keys)) differ))
 
 -- ---- DA and EA
 
@@ -170,7 +172,9 @@ verify-ids v s start p g w differ =
     let w₁₁ = past-text s at₁₀ shown _ w₁₀ in
     let pair = admitted-keys v p g in
     let ks = frontAt (keyFor v) start .value (p .keys, tt) in
-    let none : Fault = record { refusal = Field15; field = 0; place = 0 } in
+    let five = between-append s start at₄ at₆ (frontFields (p .keys)) (sealedFields (p .sealed)) (between-whole s start (pairText (p .keys) ++ maximumText) _ _ (front-fields (p .keys)) w) (between-whole s at₄ (sealedText (p .sealed)) _ _ (sealed-fields (p .sealed)) w₄) in
+    let nine = between-append s start at₆ at₁₀ _ (inputFields (p .inputs)) five (between-whole s at₆ (inputsText (p .inputs)) _ _ (input-fields (p .inputs)) w₆) in
+    let ten = between-append s start at₁₀ at₁₁ _ (shown ∷ []) nine (between-whole s at₁₀ shown _ (shown ∷ []) (sym (append-nil shown)) w₁₀) in
     rw (
       front-exact (keyFor v) s start .back (p .keys, tt) _ (pair, tt) w,
       sealed-exact 4 restricted s at₄ .back (p .sealed) _ (g .sealed) w₄,
@@ -180,8 +184,7 @@ verify-ids v s start p g w differ =
       end-apart ks s at₁₁ (p .end) (g .end) w₁₁ (λ same. differ (ids-read (p .keys .first) (p .keys .second) (p .end .id) same)),
     )
     (ap faulty (last-fault-is start 1 2 at₁₁ _ (verifyFieldTexts p) (p .keys .first) (p .keys .second) ks (p .end .id) refl refl
-    (offset-between v s start none (p .keys) pair _ w (p .sealed) (g .sealed) _ w₄ (p .inputs) (g .inputs) _ w₆ (p .offset) (g .offset) _ w₁₀ .reached)
-    (verifying.second-between v s start none (p .keys) pair _ w .reached) differ))
+    (ten .reached) (verifying.second-at start (p .keys .first)) differ))
   where
     admitted-keys : (v : Verifying) (p : VerifyParts) → AreVerify (pinKeyRuleOf v) p → ArePair anyLetter (keyFor v) anyLetter verifyingPvk (p .keys)
     admitted-keys v p g = (

@@ -6,7 +6,7 @@ use native.Mathlib.Nat.{add-zero}
 use native.Mathlib.Omega.{arith}
 use mathlib.Core.Path.{_≡_, refl, sym, ap, _∙_, subst}
 use mathlib.Core.Logic.{inl, inr}
-use mathlib.Core.List.{List, [], _∷_, _++_}
+use mathlib.Core.List.{List, [], _∷_, _++_, append-nil}
 use mathlib.Core.Bool.{Bool, true, false, cond}
 use lib.ListN.{length, take, drop, replicate, length-drop}
 use lib.Dec.{leb}
@@ -28,12 +28,11 @@ use Rattle.keyfields.specs.declared.Keys.{Keys}
 use Rattle.sealed.specs.Sealed.{sealed}
 use Rattle.offsetting.specs.Offsetting.{offsetting}
 use Rattle.endings.specs.Endings.{allAgree, lastId, closed, end}
-use Rattle.texts.specs.Texts.{asTwoDigits, Optional, absent, WherePresent, IsTrailer, trailerText, markOfTrailer}
+use Rattle.texts.specs.Texts.{Optional, absent, WherePresent, IsTrailer, trailerText, markOfTrailer}
 use Rattle.texts.specs.Texts as text
 use Rattle.texts.specs.Writings.{runs, numbers, trailers}
-use Rattle.texts.proofs.Closing.{past-text}
 use Rattle.texts.proofs.Readers.{run-exact, number-exact, trailer-exact}
-use Rattle.texts_keys.specs.KeyTexts.{keyText, IsKey, IsId, idText, markOfId}
+use Rattle.texts_keys.specs.KeyTexts.{IsKey, IsId, idText, markOfId}
 use Rattle.texts_keys.specs.KeyWritings.{ruleFor, Admits, keyed, ids}
 use Rattle.texts_keys.proofs.KeyFields.{key-exact, id-exact}
 use Rattle.texts_data.specs.DataTexts.{Allows, withN}
@@ -43,7 +42,7 @@ use Rattle.texts_data.proofs.ValidationData.{data-exact}
 use Rattle.texts_stages.specs.StageTexts.{PairFields, SealedFields, AreSealed, InputFields, AreInputs, EndFields, AreEnd}
 use Rattle.claims_places.specs.FieldTexts.{pairFields, sealedFields, inputFields, endFields}
 use Rattle.claims_places.specs.Begins.{Between, Unmarked, FullTrailer, EndTook}
-use Rattle.claims_places.proofs.Between.{between-none, between-more, between-one, field-fault, no-fault, Halts}
+use Rattle.claims_places.proofs.Between.{between-none, between-append, field-fault, no-fault, Halts}
 
 -- so many of its fields stand before the place
 module _ {P : Type 0} (Are : P → Type 0) (texts : P → List (List ℕ)) (first : ℕ) (s : List ℕ) (at : ℕ) (f : Fault) where
@@ -68,8 +67,8 @@ unfolding keyPair
 pair-halts first letters₁ use₁ letters₂ use₂ some good s at f e =
     let Are = ArePair letters₁ use₁ letters₂ use₂ in
     field-fault first (key letters₁ use₁) (keyed letters₁ use₁) (key-exact letters₁ use₁) s at _ f e (halts-first Are pairFields first s at f some good (omega arith))
-    (λ k rest g w h. field-fault (first + 1) (key letters₂ use₂) (keyed letters₂ use₂) (key-exact letters₂ use₂) s (at + length (keyText k)) _ f h
-    (halts-at Are pairFields first s at f (record { first = k; second = some .second }) (g, good .1) 1 (at + length (keyText k)) (omega arith) (between-one s at (keyText k) rest w))
+    (λ k at₂ g b h. field-fault (first + 1) (key letters₂ use₂) (keyed letters₂ use₂) (key-exact letters₂ use₂) s at₂ _ f h
+    (halts-at Are pairFields first s at f (record { first = k; second = some .second }) (g, good .1) 1 at₂ (omega arith) b)
     (λ _ _ _ _ r. no-fault r))
 
 -- ---- PIN block and format
@@ -90,8 +89,8 @@ unfolding sealed
 sealed-halts restricted s at f e =
     field-fault 4 (run CapitalHex Field15 Field15 16) (runs CapitalHex 16) (run-exact CapitalHex Field15 Field15 16) s at _ f e
     (halts-first (AreSealed restricted) sealedFields 4 s at f someSealed (sealed-good restricted) (omega arith))
-    (λ block rest g w h. field-fault 5 (formatField restricted) (formats restricted) (format-exact restricted) s (at + length block) _ f h
-    (halts-at (AreSealed restricted) sealedFields 4 s at f (record { block = block; format = F01 }) (record { block = g; format = format-01 restricted }) 1 (at + length block) (omega arith) (between-one s at block rest w))
+    (λ block at₂ g b h. field-fault 5 (formatField restricted) (formats restricted) (format-exact restricted) s at₂ _ f h
+    (halts-at (AreSealed restricted) sealedFields 4 s at f (record { block = block; format = F01 }) (record { block = g; format = format-01 restricted }) 1 at₂ (omega arith) b)
     (λ _ _ _ _ r. no-fault r))
 
 -- ---- check length, account, table, validation data
@@ -108,23 +107,15 @@ unfolding offsetting
 inputs-halts s at f e =
     let good = inputs-good in
     field-fault 6 (number 4 12 Field15) (numbers 4 12) (number-exact 4 12 Field15 (omega arith)) s at _ f e (halts-first AreInputs inputFields 6 s at f someInputs good (omega arith))
-    (λ check rest g w h.
-    let t₁ = asTwoDigits check in
-    let at₂ = at + length t₁ in
-    field-fault 7 (run Digit Field15 Field15 12) (runs Digit 12) (run-exact Digit Field15 Field15 12) s at₂ _ f h
+    (λ check at₂ g b h. field-fault 7 (run Digit Field15 Field15 12) (runs Digit 12) (run-exact Digit Field15 Field15 12) s at₂ _ f h
     (halts-at AreInputs inputFields 6 s at f (record { check = check; account = someInputs .account; table = someInputs .table; validation = someInputs .validation })
-    (record { check = g; account = good .account; table = good .table; validation = good .validation }) 1 at₂ (omega arith) (between-one s at t₁ rest w))
-    (λ account rest₂ g₂ w₂ h₂.
-    let at₃ = at₂ + length account in
-    field-fault 8 (run Digit Field15 Table25 16) (runs Digit 16) (run-exact Digit Field15 Table25 16) s at₃ _ f h₂
+    (record { check = g; account = good .account; table = good .table; validation = good .validation }) 1 at₂ (omega arith) b)
+    (λ account at₃ g₂ b₂ h₂. field-fault 8 (run Digit Field15 Table25 16) (runs Digit 16) (run-exact Digit Field15 Table25 16) s at₃ _ f h₂
     (halts-at AreInputs inputFields 6 s at f (record { check = check; account = account; table = someInputs .table; validation = someInputs .validation })
-    (record { check = g; account = g₂; table = good .table; validation = good .validation }) 2 at₃ (omega arith) (between-more s at at₃ t₁ rest _ w (between-one s at₂ account rest₂ w₂)))
-    (λ table rest₃ g₃ w₃ h₃.
-    let at₄ = at₃ + length table in
-    field-fault 9 validationField validations data-exact s at₄ _ f h₃
+    (record { check = g; account = g₂; table = good .table; validation = good .validation }) 2 at₃ (omega arith) (between-append s at at₂ at₃ _ _ b b₂))
+    (λ table at₄ g₃ b₃ h₃. field-fault 9 validationField validations data-exact s at₄ _ f h₃
     (halts-at AreInputs inputFields 6 s at f (record { check = check; account = account; table = table; validation = someInputs .validation })
-    (record { check = g; account = g₂; table = g₃; validation = good .validation }) 3 at₄ (omega arith)
-    (between-more s at at₄ t₁ rest _ w (between-more s at₂ at₄ account rest₂ _ w₂ (between-one s at₃ table rest₃ w₃))))
+    (record { check = g; account = g₂; table = g₃; validation = good .validation }) 3 at₄ (omega arith) (between-append s at at₃ at₄ _ _ (between-append s at at₂ at₃ _ _ b b₂) b₃))
     (λ _ _ _ _ r. no-fault r))))
 
 -- ---- the end
@@ -173,43 +164,37 @@ ids-fault : (ks : Keys) (s : List ℕ) (at : ℕ) (f : Fault) (v : Optional ℕ)
 ids-fault ks s at f absent e = let g = same-fault e in second (g .0) (g .1)
 ids-fault ks s at f (text.present n) e = halted (halts-first AreEnd endFields 11 s at f noEnd no-end-good (omega arith) (same-fault e))
 
-module _ (ks : Keys) (s : List ℕ) (at : ℕ) (f : Fault) (v : Optional ℕ) (t : Optional (List ℕ)) where
-  abbrev mark : ℕ
-  mark = at + length (idText v)
+-- behind both fields: something is left over, or ids disagree
+closed-fault : (ks : Keys) (s : List ℕ) (at mark past : ℕ) (f : Fault) (e : EndFields) → ids .fine (e .id) (drop mark s) → trailers .fine (e .trailer) (drop past s)
+    → Between s at mark (idText (e .id) ∷ []) → Between s mark past (trailerText (e .trailer) ∷ [])
+    → closed ks (ids .value (e .id)) 11 at s mark past ≡ faulty f → EndFault ks s at f
+closed-fault ks s at mark past f e g h b b₂ d = by-rest (leb (length s) past) refl d
+  where
+    left : past < length s → (f .field ≡ 0) × (f .place ≡ past) → EndFault ks s at f
+    left more (k, p) =
+        let some : 1 ≤ length (drop past s) = omega (arith, length-drop past s) in
+        let behind : drop mark s ≡ trailerText (e .trailer) ++ drop past s = b₂ .bytes ∙ ap (λ (l : List ℕ). l ++ drop past s) (append-nil (trailerText (e .trailer))) in
+        let took : EndTook e (drop past s) = record {
+          id = subst (Unmarked markOfId (e .id)) behind (id-unmarked (e .id) (drop mark s) g);
+          trailer = trailer-unmarked (e .trailer) (drop past s) h;
+          full = trailer-full (e .trailer) (drop past s) h some;
+        } in
+        over e (record { id = id-is (e .id) _ g; trailer = trailer-is (e .trailer) _ h })
+        (subst (λ (n : ℕ). Between s at n (endFields e)) (sym p) (between-append s at mark past _ _ b b₂)) (subst (λ (n : ℕ). EndTook e (drop n s)) (sym p) took) (rw p more) k
 
-  abbrev past : ℕ
-  past = mark + length (trailerText t)
+    by-ids : (agree : Bool) → cond agree (read mark past) (faulty (lastId ks (ids .value (e .id)) 11 at)) ≡ faulty f → EndFault ks s at f
+    by-ids true d = no-fault d
+    by-ids false d = ids-fault ks s at f (e .id) d
 
-  -- behind both fields: something is left over, or ids disagree
-  closed-fault : (rest : List ℕ) → ids .fine v (trailerText t ++ rest) → trailers .fine t rest → drop past s ≡ rest → Between s at past (idText v ∷ trailerText t ∷ [])
-      → closed ks (ids .value v) 11 at s mark past ≡ faulty f → EndFault ks s at f
-  closed-fault rest g h w b e = by-rest (leb (length s) past) refl e
-    where
-      left : past < length s → (f .field ≡ 0) × (f .place ≡ past) → EndFault ks s at f
-      left more (k, p) =
-          let some : 1 ≤ length rest = omega (arith, length-drop past s, ap length w) in
-          let end : EndFields = record { id = v; trailer = t } in
-          let here = subst (λ (n : ℕ). drop n s ≡ rest) (sym p) w in
-          over end (record { id = id-is v _ g; trailer = trailer-is t rest h }) (subst (λ (n : ℕ). Between s at n (endFields end)) (sym p) b)
-          (subst (EndTook end) (sym here) (record { id = id-unmarked v _ g; trailer = trailer-unmarked t rest h; full = trailer-full t rest h some })) (rw p more) k
-
-      by-ids : (agree : Bool) → cond agree (read mark past) (faulty (lastId ks (ids .value v) 11 at)) ≡ faulty f → EndFault ks s at f
-      by-ids true d = no-fault d
-      by-ids false d = ids-fault ks s at f v d
-
-      by-rest : (ended : Bool) → leb (length s) past ≡ ended
-          → cond ended (cond (allAgree ks (ids .value v)) (read mark past) (faulty (lastId ks (ids .value v) 11 at))) (faulty (record { refusal = Field15; field = 0; place = past })) ≡ faulty f → EndFault ks s at f
-      by-rest true k d = by-ids (allAgree ks (ids .value v)) d
-      by-rest false k d = left (leb-false (length s) past k) (same-fault d)
+    by-rest : (ended : Bool) → leb (length s) past ≡ ended
+        → cond ended (cond (allAgree ks (ids .value (e .id))) (read mark past) (faulty (lastId ks (ids .value (e .id)) 11 at))) (faulty (record { refusal = Field15; field = 0; place = past })) ≡ faulty f → EndFault ks s at f
+    by-rest true k d = by-ids (allAgree ks (ids .value (e .id))) d
+    by-rest false k d = left (leb-false (length s) past k) (same-fault d)
 
 pub end-faults : (ks : Keys) (s : List ℕ) (at : ℕ) (f : Fault) → end 11 ks s at ≡ faulty f → EndFault ks s at f
 unfolding end
 end-faults ks s at f e =
     field-fault 11 lmkField ids id-exact s at _ f e (λ own. halted (halts-first AreEnd endFields 11 s at f noEnd no-end-good (omega arith) own))
-    (λ v rest g w h. field-fault 12 trailer trailers trailer-exact s (at + length (idText v)) _ f h
-    (λ own. halted (halts-at AreEnd endFields 11 s at f (record { id = v; trailer = absent }) (record { id = id-is v rest g; trailer = tt }) 1 (at + length (idText v)) (omega arith) (between-one s at (idText v) rest w) own))
-    (λ t rest₂ g₂ w₂ h₂.
-    let mark = at + length (idText v) in
-    let behind : rest ≡ trailerText t ++ rest₂ = sym (past-text s at (idText v) rest w) ∙ w₂ in
-    closed-fault ks s at f v t rest₂ (subst (ids .fine v) behind g) g₂ (past-text s mark (trailerText t) rest₂ w₂)
-    (between-more s at (mark + length (trailerText t)) (idText v) rest _ w (between-one s mark (trailerText t) rest₂ w₂)) h₂))
+    (λ v mark g b h. field-fault 12 trailer trailers trailer-exact s mark _ f h
+    (λ own. halted (halts-at AreEnd endFields 11 s at f (record { id = v; trailer = absent }) (record { id = id-is v _ g; trailer = tt }) 1 mark (omega arith) b own))
+    (λ t past g₂ b₂ h₂. closed-fault ks s at mark past f (record { id = v; trailer = t }) g g₂ b b₂ h₂))
