@@ -102,6 +102,13 @@ pointed-bk = (
   refl,
   refl,
   refl,
+  refl,
+  refl,
+  refl,
+  refl,
+  refl,
+  refl,
+  refl,
 )
 
 pub pointed-verifications : PointedVerifications

@@ -3,7 +3,7 @@
 -- in definition and code together is met here. The commands are those of claims_refusals, with a part changed, or two.
 use Prim.Native.Nat.{ℕ}
 use mathlib.Core.Path.{_≡_}
-use mathlib.Core.List.{List, [], _∷_}
+use mathlib.Core.List.{List, [], _∷_, _++_}
 use mathlib.Core.Bool.{true, false}
 use lib.ListN.{replicate}
 use Rattle.numbers.specs.Promise.{Said, quietly}
@@ -17,7 +17,7 @@ use Rattle.texts.specs.Characters.{printed}
 use Rattle.claims_blocks.specs.Figures.{blockP1}
 use Rattle.claims_offsets.specs.Figures.{blockP2, encipheredP9}
 use Rattle.claims_commands.specs.Witnesses.{oneListed}
-use Rattle.claims_refusals.specs.Parts.{but, exchange, longer, format05, otherListed, id00, header7F, hdr1nc, type003, keyX, pinKeyBlockE, pvkBlockB, smallHex, format0A, format99, format41, check13, check06, accountA, tableA, shortTableA, validationNN, countA, threeListed, id10, id01, trailer33, leftX}
+use Rattle.claims_refusals.specs.Parts.{but, exchange, longer, format05, otherListed, id00, header7F, hdr1nc, type003, keyX, pinKeyBlock2, pinKeyBlockE, pinKeyBlockV1, pvkBlockB, smallHex, format0A, format99, format41, check13, check06, accountA, tableA, shortTableA, validationNN, countA, threeListed, shortList, id10, id01, trailer33, leftX}
 use Rattle.claims_refusals.specs.Refusals.{KeyBox, keyBox, good, goodP4, threeDigits, sevenBytes}
 use Rattle.claims_refusals.specs.Verifying.{hdr1da, hdr1ea, terminalBlock, zoneBlock, withBlocks}
 use Rattle.claims_pointed.specs.RowParts.{ending, longHeader, tripleKey, longBlock, pinKey01, pvk01, verifying01, validationP, trailer7F, longTrailer7F, trailerThen7F}
@@ -56,8 +56,8 @@ abbrev pub BothPoint : List (List ℕ) → ℕ → ℕ → ℕ → Type 0
 BothPoint parts number place field = BothPointUnder 4 parts number place field
 
 -- "An asking call stops here": it says 00 and points at nothing, and the answering call comes to something behind the fields, or to 00
-abbrev pub AnswerPoints : KeyBox → List (List ℕ) → ℕ → ℕ → ℕ → Type 0
-AnswerPoints keys parts number place field = CallsPoint usually 8 65 keys parts (points 0 0 0) (points number place field)
+abbrev pub OnlyAnswerPoints : KeyBox → List (List ℕ) → ℕ → ℕ → ℕ → Type 0
+OnlyAnswerPoints keys parts number place field = CallsPoint usually 8 65 keys parts (points 0 0 0) (points number place field)
 
 -- ---- BK
 
@@ -66,19 +66,19 @@ AnswerPoints keys parts number place field = CallsPoint usually 8 65 keys parts 
 abbrev pub PointedBk : Type 0
 PointedBk =
     -- 00 points at nothing: place 0 and field 0. An LMK id that stands alone agrees
-    AnswerPoints good longer 0 0 0
-    × AnswerPoints good (but 11 id01 exchange) 0 0 0
+    OnlyAnswerPoints good longer 0 0 0
+    × OnlyAnswerPoints good (but 11 id01 exchange) 0 0 0
     -- so do 901, 902 and 68, whatever comes behind them
     × CallsPoint usually 7 64 good (but 1 type003 exchange) (points 901 0 0) (points 901 0 0)
     × BothPoint (but 0 header7F exchange) 902 0 0
     × BothPoint (but 0 hdr1nc (but 1 type003 exchange)) 68 0 0
     -- and what is judged behind the fields: 10, 11, 20, 24, 81, 86
-    × AnswerPoints (keyBox false true blockP2 encipheredP9) exchange 10 0 0
-    × AnswerPoints (keyBox true false blockP2 encipheredP9) longer 11 0 0
-    × AnswerPoints (keyBox true true blockP1 encipheredP9) exchange 20 0 0
-    × AnswerPoints (keyBox true true threeDigits encipheredP9) longer 24 0 0
-    × AnswerPoints good (but 6 check06 exchange) 81 0 0
-    × AnswerPoints good (but 10 oneListed longer) 86 0 0
+    × OnlyAnswerPoints (keyBox false true blockP2 encipheredP9) exchange 10 0 0
+    × OnlyAnswerPoints (keyBox true false blockP2 encipheredP9) longer 11 0 0
+    × OnlyAnswerPoints (keyBox true true blockP1 encipheredP9) exchange 20 0 0
+    × OnlyAnswerPoints (keyBox true true threeDigits encipheredP9) longer 24 0 0
+    × OnlyAnswerPoints good (but 6 check06 exchange) 81 0 0
+    × OnlyAnswerPoints good (but 10 oneListed longer) 86 0 0
     -- "the byte position in the command where the field that failed begins, and which field number". 1: another type, none
     × BothPoint (but 1 type003 exchange) 15 6 1
     × BothPoint (ending 1 [] exchange) 15 6 1
@@ -87,11 +87,18 @@ PointedBk =
     × BothPoint (but 2 keyX exchange) 26 9 2
     × BothPoint (ending 2 (printed "S001") longer) 15 9 2
     × BothPoint (but 2 pinKeyBlockE longer) 29 9 2
+    -- its hex, its version, its usage
+    × BothPoint (but 2 (0x55 ∷ replicate 31 0x30 ++ printed "a") exchange) 15 9 2
+    × BothPoint (but 2 pinKeyBlock2 longer) 26 9 2
+    × BothPoint (but 2 pinKeyBlockV1 longer) 29 9 2
     × BothPoint (but 2 (printed "S00016P0TB00E0010") longer) 15 9 2
     -- 3, at its letter: behind `U` and 32 hex, `T` and 48, a key block of 16 bytes, one of 32
     × BothPoint (ending 3 [] exchange) 15 42 3
     × BothPoint (but 2 tripleKey (but 3 keyX exchange)) 26 58 3
     × BothPoint (but 3 pvkBlockB longer) 29 26 3
+    -- its length, and the rest to that length
+    × BothPoint (but 3 (printed "S00015V1TC00E0000") longer) 26 26 3
+    × BothPoint (ending 3 (printed "S00032V1TC00E0000") longer) 15 26 3
     × BothPoint (but 2 longBlock (but 3 (printed "S00016V1TC00E0010") longer)) 15 42 3
     -- 4: a small letter, fifteen characters
     × BothPoint (but 4 smallHex exchange) 15 75 4
@@ -110,12 +117,14 @@ PointedBk =
     -- 8: a letter, fifteen characters
     × BothPoint (but 8 tableA longer) 25 75 8
     × BothPoint (ending 8 shortTableA exchange) 15 107 8
-    -- 9: two `N`, `P` and 15 hex
+    -- 9: two `N`, `P` and 15 hex, `P` and a small letter
     × BothPoint (but 9 validationNN exchange) 15 123 9
     × BothPoint (ending 9 (printed "P0123456789A2345") longer) 15 91 9
-    -- 10, at its mark: the mark alone, the length, and the count behind `P` and 16 hex
+    × BothPoint (but 9 (printed "P0123456789A2345a") longer) 15 91 9
+    -- 10, at its mark: the mark alone, the length, the list, and the count behind `P` and 16 hex
     × BothPoint (ending 10 (printed ";") exchange) 3 135 10
     × BothPoint (but 10 threeListed longer) 15 103 10
+    × BothPoint (ending 10 shortList longer) 3 103 10
     × BothPoint (but 9 validationP (but 10 countA exchange)) 3 140 10
     -- 11, at its mark: behind no weak list, behind one
     × BothPoint (but 11 id10 exchange) 15 135 11
@@ -146,8 +155,8 @@ PointedBk =
     × BothPointUnder 16 (but 0 (longHeader (printed "BK")) (but 1 type003 exchange)) 15 18 1
     × BothPointUnder 16 (but 0 (longHeader (printed "BK")) (but 3 pvk01 (but 11 [] longer))) 15 38 3
     -- "For slices that are not 8 bytes, the position is the command's length", field 0: behind the fields, before 10
-    × AnswerPoints (keyBox true true sevenBytes encipheredP9) exchange 15 135 0
-    × AnswerPoints (keyBox false false blockP2 sevenBytes) longer 15 120 0
+    × OnlyAnswerPoints (keyBox true true sevenBytes encipheredP9) exchange 15 135 0
+    × OnlyAnswerPoints (keyBox false false blockP2 sevenBytes) longer 15 120 0
     × CallsPoint usually 8 65 (keyBox true true [] []) (but 8 tableA exchange) (points 25 107 8) (points 25 107 8)
 
 -- ---- DA and EA
@@ -157,10 +166,10 @@ PointedBk =
 abbrev pub PointedVerifications : Type 0
 PointedVerifications =
     -- 00, 01 and 81 point at nothing
-    AnswerPoints good hdr1da 0 0 0
-    × AnswerPoints good (withBlocks zoneBlock hdr1ea) 0 0 0
-    × AnswerPoints good (but 10 (printed "9248FFFFFFFF") hdr1da) 1 0 0
-    × AnswerPoints good (but 6 check06 hdr1ea) 81 0 0
+    OnlyAnswerPoints good hdr1da 0 0 0
+    × OnlyAnswerPoints good (withBlocks zoneBlock hdr1ea) 0 0 0
+    × OnlyAnswerPoints good (but 10 (printed "9248FFFFFFFF") hdr1da) 1 0 0
+    × OnlyAnswerPoints good (but 6 check06 hdr1ea) 81 0 0
     -- 1. PIN key, at its letter: a zone's in DA, none in EA
     × BothPoint (but 1 zoneBlock hdr1da) 29 6 1
     × BothPoint (ending 1 [] hdr1ea) 15 6 1
@@ -199,8 +208,8 @@ PointedVerifications =
     × BothPointUnder 0 (but 0 (printed "EA") (but 10 (printed "92A7FFFFFFFF") hdr1ea)) 15 130 10
     × BothPointUnder 16 (but 0 (longHeader (printed "DA")) (but 3 (printed "13") hdr1da)) 15 84 3
     -- slices: the command's length, field 0
-    × AnswerPoints (keyBox true true sevenBytes encipheredP9) hdr1da 15 146 0
-    × AnswerPoints (keyBox true true blockP2 sevenBytes) (withBlocks zoneBlock hdr1ea) 15 121 0
+    × OnlyAnswerPoints (keyBox true true sevenBytes encipheredP9) hdr1da 15 146 0
+    × OnlyAnswerPoints (keyBox true true blockP2 sevenBytes) (withBlocks zoneBlock hdr1ea) 15 121 0
 
 -- ---- both tables
 
