@@ -144,9 +144,10 @@ typedef struct {
  *             wrote at the start of the lent output. It is 0 for every number
  *             but 00, and for every verdict call; of qg_answer it is the
  *             length of the response, and 0 for 901 and 902 alone.
- *   place     of qg_ask and qg_answer: where in the command the fault is. It
- *             is the position of a byte, counted from 0, the header counted
- *             in; 0 where the reply points at nothing.
+ *   place     of qg_ask and qg_answer: where the field at fault begins, or the
+ *             first byte left over. It is a position counted from 0, the
+ *             header counted in; the command's length where nothing stands
+ *             there, and 0 where the reply points at nothing.
  *   field     of qg_ask and qg_answer: the number of the field at fault, as the
  *             table of the command counts it; 0 where there is none.
  *
