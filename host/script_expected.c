@@ -59,7 +59,8 @@ static const char *take_refusal(struct script_expected *asks, const char *behind
 		return "asks: the paper has no refusal of this number";
 	if (*behind == '\0')
 		return NULL;
-	return skip_word(&behind, SCRIPT_AT) && read_place(&behind, asks) && *behind == '\0' ? NULL :
+	return skip_word(&behind, "") && skip_word(&behind, SCRIPT_AT) && read_place(&behind, asks) &&
+		*behind == '\0' ? NULL :
 		"asks: behind the number of a refusal stands nothing, or at, a place, field and a number";
 }
 
@@ -77,9 +78,8 @@ const char *script_take_asks(struct script *script, const char *rest)
 	if (is_open(rest))
 		return take_open(script);
 	bool numbered = text_read_number(&behind, TEXT_FIGURES, &asks->number);
-	behind += strspn(behind, BLANKS);
 	/* no hex has a small letter: what goes on with one says a place */
-	if (numbered && (*behind == '\0' || *behind == SCRIPT_AT[0]))
+	if (numbered && (*behind == '\0' || behind[strspn(behind, BLANKS)] == SCRIPT_AT[0]))
 		return take_refusal(asks, behind);
 	asks->number = 0;
 	if (text_read_hex(rest, &bytes) != NULL || bytes.len != BLOCK)
