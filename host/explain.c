@@ -146,14 +146,10 @@ static void tell(const struct script_exchange *e)
 	show_answered(e, &sent, taken);
 }
 
-int explain(char **words, int len)
+bool explain(char **words, int len)
 {
 	if (!explain_read(&script, words, len))
-		return EXPLAIN_MALFORMED;
+		return false;
 	tell(&script.now);
-	if (fflush(stdout) != 0 || ferror(stdout)) {
-		fputs("labhost explain: it cannot be printed whole\n", stderr);
-		return EXPLAIN_FAILED;
-	}
-	return 0;
+	return true;
 }

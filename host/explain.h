@@ -34,11 +34,9 @@
 #include "names.h"
 #include "script.h"
 
-#define EXPLAIN_FAILED 1
-#define EXPLAIN_MALFORMED 2
-
-/* What stands behind the word explain. Answers the status. */
-int explain(char **words, int len);
+/* Explains what stands behind the word explain. False: the words were malformed,
+ * and that is told. */
+bool explain(char **words, int len);
 
 /* Reads the words into a script's exchange. False: something is wrong with them,
  * and that is told. */

@@ -16,7 +16,8 @@
  * anything is played or recorded, so it must be a file that can be read twice.
  * Where a line of any of them is malformed,
  * nothing is: 'FILE:LINE: what is wrong' goes to stderr. Status 0: all went as
- * expected; 1: something did not; 2: a script or the words were malformed.
+ * expected; 1: something did not, or it could not be printed whole; 2: a script
+ * or the words were malformed.
  */
 #include <stdio.h>
 #include <string.h>
@@ -149,23 +150,31 @@ static int record(const char *path)
 		tell_changed(path);
 		return STATUS_FAILED;
 	}
-	if (fflush(stdout) != 0 || ferror(stdout)) {
-		fputs("the recorded script cannot be written whole\n", stderr);
-		return STATUS_FAILED;
-	}
 	return 0;
 }
 
-int main(int argc, char **argv)
+static int run(int argc, char **argv)
 {
 	if (argc >= 3 && strcmp(argv[1], "play") == 0)
 		return play(argv + 2, argc - 2);
 	if (argc == 3 && strcmp(argv[1], "record") == 0)
 		return record(argv[2]);
 	if (argc >= 2 && strcmp(argv[1], "explain") == 0)
-		return explain(argv + 2, argc - 2);
+		return explain(argv + 2, argc - 2) ? 0 : STATUS_MALFORMED;
 	fprintf(stderr, "usage: labhost play FILE...\n"
 		"       labhost record FILE\n"
 		"       labhost explain [OPTION]... [COMMAND]\n");
 	return STATUS_MALFORMED;
+}
+
+int main(int argc, char **argv)
+{
+	int status = run(argc, argv);
+
+	/* a full disk cuts what was printed, and nothing else tells of it */
+	if (fflush(stdout) != 0 || ferror(stdout)) {
+		fputs("labhost: it cannot be printed whole\n", stderr);
+		return STATUS_FAILED;
+	}
+	return status;
 }
