@@ -8,6 +8,9 @@
 #define CODE 2
 #define FIELDS 12
 
+/* The format's number, in every table. */
+#define FORMAT_FIELD 5
+
 struct field_words {
 	const char *name;
 	const char *wanted;
@@ -50,12 +53,14 @@ struct command_words {
 	const char *code;
 	const char *words;
 	const struct field_words *fields;
+	const char *restricted;  /* what is wanted as a format where restricted is yes; NULL: the same */
 };
 
 static const struct command_words commands[] = {
-	{ "BK", "makes the offset of a terminal PIN", of_bk },
-	{ "DA", "verifies a PIN under a terminal key", of_verification },
-	{ "EA", "verifies a PIN under a zone key", of_verification },
+	{ "BK", "makes the offset of a terminal PIN", of_bk,
+		"two digits: 01 or 47, since restricted is yes" },
+	{ "DA", "verifies a PIN under a terminal key", of_verification, NULL },
+	{ "EA", "verifies a PIN under a zone key", of_verification, NULL },
 };
 
 static const struct command_words *command_of(const struct fields_sent *sent)
@@ -98,9 +103,14 @@ const char *names_field(const struct fields_sent *sent, uint32_t number)
 
 const char *names_wanted(const struct fields_sent *sent, uint32_t number)
 {
+	const struct command_words *command = command_of(sent);
 	const struct field_words *words = words_of(sent, number);
 
-	return words != NULL ? words->wanted : NULL;
+	if (words == NULL)
+		return NULL;
+	if (number == FORMAT_FIELD && sent->settings.restricted != 0 && command->restricted != NULL)
+		return command->restricted;
+	return words->wanted;
 }
 
 void names_meaning(const struct fields_sent *sent, const struct fields_one *field,
