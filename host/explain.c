@@ -68,16 +68,13 @@ static bool block_is_read(const struct script_exchange *e)
  * under it. */
 static void show_place(const struct fields_sent *sent, const qg_reply *reply)
 {
-	const char *wanted = names_wanted(sent, reply->field);
-
 	if (!fields_is_placed(sent, reply))
 		return;
 	struct underline_span span = { reply->place, fields_fault_end(sent, reply) };
 	printf("%*s%s", INDENT, "", colour_fault());
 	names_show_place(sent, reply);
 	printf("%s\n", colour_plain());
-	if (wanted != NULL && !fields_disagree(sent, reply))
-		printf("%*swanted: %s\n", INDENT, "", wanted);
+	names_show_wanted(sent, reply, INDENT);
 	underline_show(sent->at, sent->len, span, INDENT);
 }
 

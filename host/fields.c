@@ -163,6 +163,11 @@ bool fields_is_placed(const struct fields_sent *sent, const qg_reply *reply)
 		reply->place <= sent->len && sent->len <= LONGEST;
 }
 
+bool fields_letter_is_taken(const struct fields_sent *sent, const qg_reply *refusal)
+{
+	return refusal->place < sent->len && ask(sent, sent->at, refusal->place + 1).number == SHORT;
+}
+
 bool fields_disagree(const struct fields_sent *sent, const qg_reply *refusal)
 {
 	/* in a command of the greatest length something is left over, and that decides */

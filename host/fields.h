@@ -50,6 +50,11 @@ bool fields_is_placed(const struct fields_sent *sent, const qg_reply *reply);
  * where nothing stands there. */
 size_t fields_fault_end(const struct fields_sent *sent, const qg_reply *refusal);
 
+/* Whether the box takes the letter of a key field that it refuses: what is wrong
+ * stands behind it then. A command that ends at a letter that is taken is short,
+ * and not at fault for the letter. */
+bool fields_letter_is_taken(const struct fields_sent *sent, const qg_reply *refusal);
+
 /* Whether a refusal is about LMK ids that disagree. Each field by itself is in
  * order then: with a byte 00 behind the command the box tells another place. */
 bool fields_disagree(const struct fields_sent *sent, const qg_reply *refusal);

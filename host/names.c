@@ -49,18 +49,29 @@ static const struct field_words of_verification[FIELDS] = {
 	LMK, TRAILER,
 };
 
+/* The PIN key and the PVK. */
+#define KEYS 2
+
+#define PIN_KEY(usages) "usage " usages ", algorithm T, mode B, D or N"
+#define PVK(modes) "usage V1, algorithm T, mode " modes
+
 struct command_words {
 	const char *code;
 	const char *words;
 	const struct field_words *fields;
+	uint32_t pin_key;        /* the number of its field; the PVK's follows */
+	const char *uses[KEYS];  /* what is wanted of their key blocks */
 	const char *restricted;  /* what is wanted as a format where restricted is yes; NULL: the same */
 };
 
 static const struct command_words commands[] = {
 	{ "BK", "makes the offset of a terminal PIN", of_bk,
+		2, { PIN_KEY("P0, 71 or 72"), PVK("C, G or N") },
 		"two digits: 01 or 47, since restricted is yes" },
-	{ "DA", "verifies a PIN under a terminal key", of_verification, NULL },
-	{ "EA", "verifies a PIN under a zone key", of_verification, NULL },
+	{ "DA", "verifies a PIN under a terminal key", of_verification,
+		1, { PIN_KEY("P0 or 71"), PVK("C, V or N") }, NULL },
+	{ "EA", "verifies a PIN under a zone key", of_verification,
+		1, { PIN_KEY("P0 or 72"), PVK("C, V or N") }, NULL },
 };
 
 static const struct command_words *command_of(const struct fields_sent *sent)
@@ -101,18 +112,6 @@ const char *names_field(const struct fields_sent *sent, uint32_t number)
 	return words != NULL ? words->name : NULL;
 }
 
-const char *names_wanted(const struct fields_sent *sent, uint32_t number)
-{
-	const struct command_words *command = command_of(sent);
-	const struct field_words *words = words_of(sent, number);
-
-	if (words == NULL)
-		return NULL;
-	if (number == FORMAT_FIELD && sent->settings.restricted != 0 && command->restricted != NULL)
-		return command->restricted;
-	return words->wanted;
-}
-
 void names_meaning(const struct fields_sent *sent, const struct fields_one *field,
 	char words[NAMES_ROOM])
 {
@@ -137,4 +136,36 @@ void names_show_place(const struct fields_sent *sent, const qg_reply *refusal)
 		printf(": a block of the key box is not 8 bytes");
 	if (fields_disagree(sent, refusal))
 		printf(": the LMK ids disagree, and this is the last");
+}
+
+/* What is wanted of the key block that a refusal is about, or NULL where it is
+ * about none: another field, another kind of key, or the letter itself. */
+static const char *uses_wanted(const struct command_words *command, const struct fields_sent *sent,
+	const qg_reply *refusal)
+{
+	uint32_t key = refusal->field - command->pin_key;
+
+	if (refusal->field < command->pin_key || key >= KEYS || !fields_letter_is_taken(sent, refusal))
+		return NULL;
+	return sent->at[refusal->place] == 'S' ? command->uses[key] : NULL;
+}
+
+void names_show_wanted(const struct fields_sent *sent, const qg_reply *refusal, int indent)
+{
+	static const char wanted[] = "wanted: ";
+	const struct command_words *command = command_of(sent);
+	const struct field_words *words = words_of(sent, refusal->field);
+
+	if (words == NULL || fields_disagree(sent, refusal))
+		return;
+	const char *uses = uses_wanted(command, sent, refusal);
+	printf("%*s%s", indent, "", wanted);
+	if (uses != NULL)
+		printf("a key block, printable to its length: version 0 or 1, length 0016 to 0512,\n"
+			"%*s%s, LMK id 00 to 09\n", indent + (int)strlen(wanted), "", uses);
+	else if (refusal->field == FORMAT_FIELD && sent->settings.restricted != 0 &&
+		command->restricted != NULL)
+		printf("%s\n", command->restricted);
+	else
+		printf("%s\n", words->wanted);
 }

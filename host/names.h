@@ -17,10 +17,8 @@ const char *names_command(const struct fields_sent *sent);
 /* How many fields the command's table counts: 0 where the code has none. */
 uint32_t names_count(const struct fields_sent *sent);
 
-/* The field's name, and what is wanted there. Both are NULL where the command's
- * table has no such field. */
+/* The field's name, or NULL where the command's table has no such field. */
 const char *names_field(const struct fields_sent *sent, uint32_t number);
-const char *names_wanted(const struct fields_sent *sent, uint32_t number);
 
 /* What the characters of a field that is in order mean. */
 void names_meaning(const struct fields_sent *sent, const struct fields_one *field,
@@ -28,5 +26,9 @@ void names_meaning(const struct fields_sent *sent, const struct fields_one *fiel
 
 /* Prints, without an end of line, what a refusal's place and field are. */
 void names_show_place(const struct fields_sent *sent, const qg_reply *refusal);
+
+/* Prints, in lines that stand so far from the left, what is wanted where a refusal
+ * points. Where no field by itself is at fault it prints nothing. */
+void names_show_wanted(const struct fields_sent *sent, const qg_reply *refusal, int indent);
 
 #endif
