@@ -10,6 +10,12 @@
 #define BLOCK 8
 #define RESPONSE 65
 
+/* Numbers that the answering call has behind the fields, for the key box's
+ * answers. */
+#define NOT_8_BYTES 15
+#define PIN_KEY_PARITY 10
+#define PVK_PARITY 11
+
 /* How far what is shown stands from the left, behind its name. */
 #define INDENT 12
 
@@ -56,12 +62,31 @@ static void show_key_box(const struct script_exchange *e)
 		good_or_bad(e->pvk_parity_good));
 }
 
-/* Whether the box looks into the block: "two slices that are not 8 bytes long
- * (15), 10, 11, the block". */
-static bool block_is_read(const struct script_exchange *e)
+/* What the answering call did. */
+struct answered {
+	qg_reply reply;
+	uint8_t out[RESPONSE];
+};
+
+/* Asks for the answer. A refused command is refused whatever the key box would
+ * say, so any blocks will do there. */
+static void answer(const struct script_exchange *e, const struct fields_sent *sent, bool taken,
+	struct answered *answered)
 {
-	return e->block.len == BLOCK && e->enciphered.len == BLOCK &&
-		e->pin_key_parity_good != 0 && e->pvk_parity_good != 0;
+	static const struct script_slice any = { .len = BLOCK };
+	const struct script_slice *block = taken ? &e->block : &any;
+	const struct script_slice *enciphered = taken ? &e->enciphered : &any;
+
+	answered->reply = qg_answer(e->settings, e->pin_key_parity_good, e->pvk_parity_good,
+		sent->at, sent->len, block->at, block->len, enciphered->at, enciphered->len,
+		answered->out, sizeof answered->out);
+}
+
+/* Whether the box looked into the block. Where the fields are in order, these
+ * three are what it refuses before that. */
+static bool block_is_read(uint32_t number)
+{
+	return number != NOT_8_BYTES && number != PIN_KEY_PARITY && number != PVK_PARITY;
 }
 
 /* Where a refusal points, what is wanted there, and the command with a line of ^
@@ -90,33 +115,19 @@ static void show_asked(const struct fields_sent *sent, const qg_reply *asked, co
 	show_place(sent, asked);
 }
 
-/* DA and EA: their 00 is a verdict. */
-static bool is_verification(const struct fields_sent *sent)
+static void show_answer(const struct fields_sent *sent, const qg_reply *reply)
 {
-	return sent->at[sent->settings.header] != 'B';
+	show_number("answers", reply);
+	if (reply->number == 0 && names_is_verdict(sent))
+		printf("%*sthe PIN verifies\n", INDENT, "");
+	show_place(sent, reply);
 }
 
-/* What the box answers. A refused command is refused whatever the key box would
- * say, so any blocks will do there. */
-static void show_answered(const struct script_exchange *e, const struct fields_sent *sent, bool taken)
+static void show_response(const struct answered *answered)
 {
-	static const struct script_slice any = { .len = BLOCK };
-	const struct script_slice *block = taken ? &e->block : &any;
-	const struct script_slice *enciphered = taken ? &e->enciphered : &any;
-	uint8_t out[RESPONSE];
-	qg_reply reply = qg_answer(e->settings, e->pin_key_parity_good, e->pvk_parity_good,
-		sent->at, sent->len, block->at, block->len, enciphered->at, enciphered->len,
-		out, sizeof out);
-
-	if (taken) {
-		show_number("answers", &reply);
-		if (reply.number == 0 && is_verification(sent))
-			printf("%*sthe PIN verifies\n", INDENT, "");
-		show_place(sent, &reply);
-	}
 	printf("%-11s ", "response");
-	if (reply.written > 0 && reply.written <= RESPONSE)
-		text_show(stdout, out, reply.written);
+	if (answered->reply.written > 0 && answered->reply.written <= RESPONSE)
+		text_show(stdout, answered->out, answered->reply.written);
 	else
 		printf("none");
 	putchar('\n');
@@ -126,6 +137,7 @@ static void tell(const struct script_exchange *e)
 {
 	struct fields_sent sent = { e->settings, e->command, e->command_len };
 	uint8_t block[BLOCK];
+	struct answered answered;
 	qg_reply asked = qg_ask(e->settings, sent.at, sent.len, block, sizeof block);
 	bool taken = asked.number == 0;
 
@@ -136,11 +148,14 @@ static void tell(const struct script_exchange *e)
 	show_asked(&sent, &asked, block);
 	if (taken && !e->block.given)
 		return;
-	if (taken)
+	answer(e, &sent, taken, &answered);
+	if (taken) {
 		show_key_box(e);
-	if (taken && block_is_read(e))
-		explain_pin(e, &sent);
-	show_answered(e, &sent, taken);
+		if (block_is_read(answered.reply.number))
+			explain_pin(e, &sent);
+		show_answer(&sent, &answered.reply);
+	}
+	show_response(&answered);
 }
 
 bool explain(char **words, int len)

@@ -254,7 +254,7 @@ void explain_pin(const struct script_exchange *e, const struct fields_sent *sent
 	struct view view = { .e = e, .account = characters(sent, &fields, ACCOUNT),
 		.table = characters(sent, &fields, TABLE) };
 	/* in a BK the tenth is the weak list */
-	if (sent->at[sent->settings.header] != 'B')
+	if (names_is_verdict(sent))
 		view.presented = characters(sent, &fields, OFFSET);
 	if (format == NULL || check == NULL || view.account == NULL || view.table == NULL)
 		return;

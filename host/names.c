@@ -49,6 +49,12 @@ static const struct field_words of_verification[FIELDS] = {
 	LMK, TRAILER,
 };
 
+/* What the 00 of a command is. */
+enum done {
+	OFFSET,
+	VERDICT,
+};
+
 /* The PIN key and the PVK. */
 #define KEYS 2
 
@@ -58,6 +64,7 @@ static const struct field_words of_verification[FIELDS] = {
 struct command_words {
 	const char *code;
 	const char *words;
+	enum done done;
 	const struct field_words *fields;
 	uint32_t pin_key;        /* the number of its field; the PVK's follows */
 	const char *uses[KEYS];  /* what is wanted of their key blocks */
@@ -65,12 +72,12 @@ struct command_words {
 };
 
 static const struct command_words commands[] = {
-	{ "BK", "makes the offset of a terminal PIN", of_bk,
+	{ "BK", "makes the offset of a terminal PIN", OFFSET, of_bk,
 		2, { PIN_KEY("P0, 71 or 72"), PVK("C, G or N") },
 		"two digits: 01 or 47, since restricted is yes" },
-	{ "DA", "verifies a PIN under a terminal key", of_verification,
+	{ "DA", "verifies a PIN under a terminal key", VERDICT, of_verification,
 		1, { PIN_KEY("P0 or 71"), PVK("C, V or N") }, NULL },
-	{ "EA", "verifies a PIN under a zone key", of_verification,
+	{ "EA", "verifies a PIN under a zone key", VERDICT, of_verification,
 		1, { PIN_KEY("P0 or 72"), PVK("C, V or N") }, NULL },
 };
 
@@ -98,6 +105,13 @@ const char *names_command(const struct fields_sent *sent)
 	const struct command_words *command = command_of(sent);
 
 	return command != NULL ? command->words : NULL;
+}
+
+bool names_is_verdict(const struct fields_sent *sent)
+{
+	const struct command_words *command = command_of(sent);
+
+	return command != NULL && command->done == VERDICT;
 }
 
 uint32_t names_count(const struct fields_sent *sent)

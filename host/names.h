@@ -14,6 +14,10 @@
 /* The command code in words, or NULL where it is not one of the three. */
 const char *names_command(const struct fields_sent *sent);
 
+/* Whether the command's 00 is a verdict on the offset that it presents, and not
+ * an offset that it makes. */
+bool names_is_verdict(const struct fields_sent *sent);
+
 /* How many fields the command's table counts: 0 where the code has none. */
 uint32_t names_count(const struct fields_sent *sent);
 
