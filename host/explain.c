@@ -19,6 +19,10 @@
 /* How far what is shown stands from the left, behind its name. */
 #define INDENT 12
 
+/* What a line's bytes may take. With the indent, and a blank at either end as
+ * \x20, that is 100. */
+#define COLUMNS 82
+
 /* A script is long. */
 static struct script script;
 
@@ -123,14 +127,18 @@ static void show_answer(const struct fields_sent *sent, const qg_reply *reply)
 	show_place(sent, reply);
 }
 
+/* Shows the response, in as many lines as it needs: \xHH takes four columns. */
 static void show_response(const struct answered *answered)
 {
-	printf("%-11s ", "response");
-	if (answered->reply.written > 0 && answered->reply.written <= RESPONSE)
-		text_show(stdout, answered->out, answered->reply.written);
-	else
-		printf("none");
-	putchar('\n');
+	size_t len = answered->reply.written <= RESPONSE ? answered->reply.written : 0, to;
+
+	printf("%-11s %s", "response", len == 0 ? "none\n" : "");
+	for (size_t from = 0; from < len; from = to) {
+		to = from + text_fitting(answered->out + from, len - from, COLUMNS);
+		printf("%*s", from == 0 ? 0 : INDENT, "");
+		text_show(stdout, answered->out + from, to - from);
+		putchar('\n');
+	}
 }
 
 static void tell(const struct script_exchange *e)

@@ -23,7 +23,8 @@
  * With --block and --enciphered, or such lines of a script, it goes on behind
  * the fields: with the block, the PIN, the offset and the response.
  *
- * No line has more than 100 columns. Colours are for terminals alone. Status 0:
+ * No line has more than 100 columns; a blank at either end of a line of the
+ * response is shown as \x20. Colours are for terminals alone. Status 0:
  * the command is explained, whether the box takes it or not; 1: it could not be
  * printed whole; 2: the words were malformed, and one line on stderr says what
  * is wrong.

@@ -30,14 +30,14 @@ struct row {
 /* Shows as many bytes as the column holds, and moves behind them. */
 static void show_bytes(struct row *row)
 {
-	size_t columns = 0;
+	size_t len = text_fitting(row->at, row->len, CHARACTERS), columns = 0;
 
-	while (row->len > 0 && columns + text_columns(row->at[0]) <= CHARACTERS) {
-		columns += text_columns(row->at[0]);
-		text_show_byte(stdout, row->at[0]);
-		row->at++;
-		row->len--;
+	for (size_t i = 0; i < len; i++) {
+		columns += text_columns(row->at[i]);
+		text_show_byte(stdout, row->at[i]);
 	}
+	row->at += len;
+	row->len -= len;
 	if (*row->words != '\0')
 		printf("%*s", (int)(CHARACTERS - columns), "");
 }

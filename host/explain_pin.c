@@ -227,7 +227,7 @@ static void show_covered(const struct view *view)
 	show_differences(differences, before, apart.written);
 	show_offset("offset", offset, before, "modulo ten");
 	if (view->presented != NULL)
-		show_offset("presented", view->presented, before, "the command's field 10");
+		show_offset("presented", view->presented, before, "field 10");
 }
 
 static const uint8_t *characters(const struct fields_sent *sent, const struct fields *fields,

@@ -117,6 +117,18 @@ size_t text_columns(uint8_t byte)
 	return byte == '\\' ? strlen("\\\\") : 1;
 }
 
+size_t text_fitting(const uint8_t *bytes, size_t len, size_t columns)
+{
+	size_t n = 0;
+
+	for (size_t used = 0; n < len; n++) {
+		used += text_columns(bytes[n]);
+		if (used > columns)
+			break;
+	}
+	return n;
+}
+
 void text_show_byte(FILE *stream, uint8_t byte)
 {
 	if (!printable(byte))

@@ -46,4 +46,7 @@ void text_show_hex(FILE *stream, const uint8_t *bytes, size_t len);
 void text_show_byte(FILE *stream, uint8_t byte);
 size_t text_columns(uint8_t byte);
 
+/* How many of the bytes so many columns hold, when they are shown one by one. */
+size_t text_fitting(const uint8_t *bytes, size_t len, size_t columns);
+
 #endif

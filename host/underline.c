@@ -18,11 +18,8 @@ struct row {
 
 static struct row row_at(const uint8_t *bytes, size_t len, size_t from)
 {
-	struct row row = { from, from };
-	size_t columns = 0;
+	struct row row = { from, from + text_fitting(bytes + from, len - from, COLUMNS) };
 
-	while (row.to < len && columns + text_columns(bytes[row.to]) <= COLUMNS)
-		columns += text_columns(bytes[row.to++]);
 	return row;
 }
 
