@@ -10,7 +10,9 @@
  * The command is an argument, or stands in a file, or comes from standard input
  * where neither is given. It is the command's text by itself, in one line, as
  * text.h has it; or lines of a class script, as script.h has them: those of one
- * exchange, with a `command` line and what else they say of it.
+ * exchange, with a `command` line and what else they say of it. What a lesson
+ * says before that exchange may be left out, but where one of the key box's
+ * blocks is said the other must be too.
  *
  *   --header N            the settings; those that are not given are the usual
  *   --restricted yes|no   ones, or what the script's lines say

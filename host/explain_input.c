@@ -202,7 +202,9 @@ static bool hold_whole(const struct script_exchange *e, const struct words *foun
 	if (!e->command_given)
 		return refuse(NULL, "no command is given");
 	if (e->block.given != e->enciphered.given)
-		return refuse(NULL, "--block and --enciphered go together");
+		return refuse(NULL, e->block.given ?
+			"a block is given: --enciphered or an enciphered line must go with it" :
+			"enciphered is given: --block or a block line must go with it");
 	if (found->given[PARITY] != NULL && !e->block.given)
 		return refuse(NULL, "--parity goes with --block and --enciphered");
 	return true;
@@ -213,6 +215,7 @@ bool explain_read(struct script *script, char **words, int len)
 	struct words found = { { NULL }, NULL };
 
 	script_begin(script, true);
+	script->alone = true;
 	if (!split(words, len, &found) || !take_source(script, &found))
 		return false;
 	/* an option says more than a line, also behind the lines that end an exchange */

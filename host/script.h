@@ -115,6 +115,7 @@ struct script {
 	const char *word;        /* the word that the fault is about, or NULL */
 	size_t word_len;
 	bool may_be_open;  /* ? is taken as an expectation */
+	bool alone;        /* one exchange by itself: the key box's blocks may be missing */
 	bool in_command;   /* `more` may follow */
 	bool begun;        /* something stands behind the last `answers` */
 	unsigned exchanges;

@@ -128,9 +128,9 @@ const char *script_take_answers(struct script *script, const char *rest)
 
 	if (!now->asks.given)
 		return "answers: this exchange has no asks line";
-	if (!now->block.given)
+	if (!script->alone && !now->block.given)
 		return "answers: no block line stands before it";
-	if (!now->enciphered.given)
+	if (!script->alone && !now->enciphered.given)
 		return "answers: no enciphered line stands before it";
 	return take_response(script, rest);
 }
