@@ -46,8 +46,9 @@ const struct fields_one *fields_find(const struct fields *fields, uint32_t numbe
  * call that tells another is not believed. */
 bool fields_is_placed(const struct fields_sent *sent, const qg_reply *reply);
 
-/* Where that ends which a refusal with a place points at. It is the place itself
- * where nothing stands there. */
+/* Where that ends which a refusal with a place points at: the field, or in a weak
+ * list the part of it that is wrong, since how long the field is meant to be is
+ * not known then. It is the place itself where nothing stands there. */
 size_t fields_fault_end(const struct fields_sent *sent, const qg_reply *refusal);
 
 /* Whether the box takes the letter of a key field that it refuses: what is wrong
