@@ -57,12 +57,17 @@ static bool refuse_line(const struct script *script)
 	return false;
 }
 
-/* Takes a line that is put together from a word and what follows it. */
-static bool take_words(struct script *script, const char *word, const char *rest)
+/* Takes a line that is put together from a word and what follows it, in one part
+ * or two. */
+static bool take_words(struct script *script, const char *word, const char *rest, const char *more)
 {
 	static char line[INPUT + SCRIPT_NAME];
+	int len = snprintf(line, sizeof line, "%s %s%s%s", word, rest, *more != '\0' ? " " : "", more);
 
-	snprintf(line, sizeof line, "%s %s", word, rest);
+	if (len < 0 || (size_t)len >= sizeof line) {
+		script->fault = "this is longer than the place for it";
+		return false;
+	}
 	return script_take(script, line) != SCRIPT_FAULT;
 }
 
@@ -77,7 +82,7 @@ static bool take_line(struct script *script, const char *line)
 	if (script->word == NULL || script->begun)
 		return refuse_line(script);
 	script->word = NULL;
-	return take_words(script, "command", line) || refuse_line(script);
+	return take_words(script, "command", line, "") || refuse_line(script);
 }
 
 /* Takes text line by line, each without its end and the blanks before that. */
@@ -155,6 +160,8 @@ static bool split(char **words, int len, struct words *found)
 		if (!plain && strcmp(words[i], "--") == 0) {
 			plain = true;
 		} else if (option < OPTIONS) {
+			if (found->given[option] != NULL)
+				return refuse(words[i], "it is given twice");
 			if (len - i - 1 < options[option].values)
 				return refuse(words[i], "what it says must follow");
 			found->given[option] = words + i + 1;
@@ -184,13 +191,10 @@ static bool take_source(struct script *script, const struct words *found)
  * with that word; the option's own is enough. */
 static bool take_option(struct script *script, const struct option *option, char **values)
 {
-	static char rest[INPUT];
 	const char *word = option->word + strlen("--");
 	size_t len = strlen(word);
 
-	snprintf(rest, sizeof rest, "%s%s%s", values[0], option->values > 1 ? " " : "",
-		option->values > 1 ? values[1] : "");
-	if (take_words(script, word, rest))
+	if (take_words(script, word, values[0], option->values > 1 ? values[1] : ""))
 		return true;
 	bool twice = strncmp(script->fault, word, len) == 0;
 	return refuse(option->word, script->fault + (twice ? len + strlen(": ") : 0));
