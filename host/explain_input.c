@@ -45,7 +45,11 @@ static bool refuse(const char *word, const char *what)
 	return false;
 }
 
-/* Tells what is wrong with a line. */
+/* What may have been meant where no command is found. */
+#define MEANT "; a command that begins with # or with a script's word stands behind `command `"
+
+/* Tells what is wrong with a line. Before there is a command the line may have
+ * been meant as one: then its word is a script's by chance. */
 static bool refuse_line(const struct script *script)
 {
 	fprintf(stderr, "labhost explain: line %u: %s", script->line, script->fault);
@@ -53,7 +57,7 @@ static bool refuse_line(const struct script *script)
 		fputs(": ", stderr);
 		text_show(stderr, (const uint8_t *)script->word, script->word_len);
 	}
-	putc('\n', stderr);
+	fprintf(stderr, "%s\n", script->now.command_given ? "" : MEANT);
 	return false;
 }
 
@@ -204,7 +208,7 @@ static bool take_option(struct script *script, const struct option *option, char
 static bool hold_whole(const struct script_exchange *e, const struct words *found)
 {
 	if (!e->command_given)
-		return refuse(NULL, "no command is given");
+		return refuse(NULL, "no command is given" MEANT);
 	if (e->block.given != e->enciphered.given)
 		return refuse(NULL, e->block.given ?
 			"a block is given: --enciphered or an enciphered line must go with it" :
