@@ -8,8 +8,6 @@
 /* Text that is longer holds no command that has a frame. */
 #define INPUT 65536
 
-#define BLANKS " \t"
-
 /* An option: it says what the script's line of the same word says. */
 struct option {
 	const char *word;
@@ -52,11 +50,8 @@ static bool refuse(const char *word, const char *what)
  * been meant as one: then its word is a script's by chance. */
 static bool refuse_line(const struct script *script)
 {
-	fprintf(stderr, "labhost explain: line %u: %s", script->line, script->fault);
-	if (script->word != NULL) {
-		fputs(": ", stderr);
-		text_show(stderr, (const uint8_t *)script->word, script->word_len);
-	}
+	fprintf(stderr, "labhost explain: line %u: ", script->line);
+	script_show_fault(stderr, script);
 	fprintf(stderr, "%s\n", script->now.command_given ? "" : MEANT);
 	return false;
 }
@@ -78,7 +73,7 @@ static bool take_words(struct script *script, const char *word, const char *rest
 /* Takes a line of a script. The first may be a command by itself. */
 static bool take_line(struct script *script, const char *line)
 {
-	line += strspn(line, BLANKS);
+	line += strspn(line, TEXT_BLANKS);
 	if (script->exchanges > 0 && *line != '\0' && *line != '#')
 		return refuse(NULL, "one exchange is explained at a time, and behind its answers line more follows");
 	if (script_take(script, line) != SCRIPT_FAULT)
@@ -96,9 +91,7 @@ static bool take_text(struct script *script, char *text)
 		size_t len = strcspn(text, "\n");
 		char *next = text + len + (text[len] == '\n');
 
-		while (len > 0 && strchr(BLANKS "\r", text[len - 1]) != NULL)
-			len--;
-		text[len] = '\0';
+		text[text_trimmed(text, len)] = '\0';
 		script->line++;
 		if (!take_line(script, text))
 			return false;

@@ -2,7 +2,6 @@
 
 #include <string.h>
 
-#define CODE 2
 #define BLOCK 8
 
 /* The longest command that has a frame. */
@@ -47,7 +46,7 @@ static qg_reply field_at(const struct fields_sent *sent, size_t n)
 
 void fields_walk(const struct fields_sent *sent, struct fields *fields)
 {
-	size_t n = sent->settings.header + CODE;
+	size_t n = sent->settings.header + FIELDS_CODE;
 
 	fields->len = 0;
 	for (; n < sent->len; n++) {

@@ -13,6 +13,9 @@
 
 #include "quillgimlet.h"
 
+/* The characters of a command's code. A response's code has as many. */
+#define FIELDS_CODE 2
+
 /* More than the twelve that a command has. */
 #define FIELDS_MOST 16
 

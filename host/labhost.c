@@ -25,7 +25,6 @@
 #include "explain.h"
 #include "player.h"
 #include "script.h"
-#include "text.h"
 
 #define STATUS_FAILED 1
 #define STATUS_MALFORMED 2
@@ -40,11 +39,8 @@ static struct script script;
 
 static void tell_fault(const char *path)
 {
-	fprintf(stderr, "%s:%u: %s", path, script.line, script.fault);
-	if (script.word != NULL) {
-		fputs(": ", stderr);
-		text_show(stderr, (const uint8_t *)script.word, script.word_len);
-	}
+	fprintf(stderr, "%s:%u: ", path, script.line);
+	script_show_fault(stderr, &script);
 	putc('\n', stderr);
 }
 

@@ -5,7 +5,6 @@
 
 #include "name_words.h"
 
-#define CODE 2
 #define FIELDS 12
 
 /* The format's number, in every table. */
@@ -85,10 +84,10 @@ static const struct command_words *command_of(const struct fields_sent *sent)
 {
 	size_t header = sent->settings.header;
 
-	if (sent->len < CODE || header > sent->len - CODE)
+	if (sent->len < FIELDS_CODE || header > sent->len - FIELDS_CODE)
 		return NULL;
 	for (size_t i = 0; i < sizeof commands / sizeof commands[0]; i++)
-		if (memcmp(commands[i].code, sent->at + header, CODE) == 0)
+		if (memcmp(commands[i].code, sent->at + header, FIELDS_CODE) == 0)
 			return &commands[i];
 	return NULL;
 }

@@ -5,8 +5,6 @@
 #include "script_expected.h"
 #include "text.h"
 
-#define BLANKS " \t"
-
 /* When a line of a kind may stand. */
 enum place {
 	PLACE_BEFORE_ASKS,  /* what the asking call is handed */
@@ -196,7 +194,7 @@ static void begin_exchange(struct script *script)
 /* Takes a line that is neither blank nor a comment. */
 static enum script_step take_line(struct script *script, const char *word)
 {
-	size_t len = strcspn(word, BLANKS);
+	size_t len = strcspn(word, TEXT_BLANKS);
 	const struct kind *kind = kind_of(word, len);
 
 	if (kind == NULL)
@@ -207,7 +205,7 @@ static enum script_step take_line(struct script *script, const char *word)
 		return refuse(script, "this cannot change between asks and answers");
 	if (kind->take != take_more && kind->take != take_command)
 		script->in_command = false;
-	script->rest = word + len + strspn(word + len, BLANKS);
+	script->rest = word + len + strspn(word + len, TEXT_BLANKS);
 	const char *fault = kind->take(script, script->rest);
 	if (fault != NULL)
 		return refuse(script, fault);
@@ -229,10 +227,7 @@ static const char *read_line(struct script *script, int first)
 			return "the line is longer than 8191 characters";
 		script->text[len++] = (char)c;
 	}
-	/* spaces at the end do not count, nor does a carriage return */
-	while (len > 0 && strchr(" \t\r", script->text[len - 1]) != NULL)
-		len--;
-	script->text[len] = '\0';
+	script->text[text_trimmed(script->text, len)] = '\0';
 	return NULL;
 }
 
@@ -250,7 +245,7 @@ static enum script_step end(struct script *script)
 
 enum script_step script_take(struct script *script, const char *line)
 {
-	const char *word = line + strspn(line, BLANKS);
+	const char *word = line + strspn(line, TEXT_BLANKS);
 
 	if (*word == '\0' || *word == '#')
 		return SCRIPT_OTHER;
@@ -268,6 +263,15 @@ enum script_step script_next(struct script *script)
 	if (fault != NULL)
 		return refuse(script, fault);
 	return script_take(script, script->text);
+}
+
+void script_show_fault(FILE *stream, const struct script *script)
+{
+	fputs(script->fault, stream);
+	if (script->word == NULL)
+		return;
+	fputs(": ", stream);
+	text_show(stream, (const uint8_t *)script->word, script->word_len);
 }
 
 void script_begin(struct script *script, bool may_be_open)

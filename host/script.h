@@ -136,4 +136,8 @@ enum script_step script_next(struct script *script);
 
 void script_close(struct script *script);
 
+/* Prints the fault of a line with the word that it is about, in one line without
+ * its end. */
+void script_show_fault(FILE *stream, const struct script *script);
+
 #endif

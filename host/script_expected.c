@@ -2,19 +2,17 @@
 
 #include <string.h>
 
+#include "fields.h"
 #include "meanings.h"
 #include "text.h"
 
 #define BLOCK 8
 
 /* A response has at least its code and its number behind the header. */
-#define CODE 2
 #define NUMBER 2
 
 /* A place may be as long as the longest command. */
 #define PLACE_FIGURES 4
-
-#define BLANKS " \t"
 
 static bool is_open(const char *rest)
 {
@@ -34,7 +32,7 @@ static bool skip_word(const char **words, const char *word)
 
 	if (strncmp(*words, word, len) != 0)
 		return false;
-	size_t blanks = strspn(*words + len, BLANKS);
+	size_t blanks = strspn(*words + len, TEXT_BLANKS);
 	if (blanks > 0)
 		*words += len + blanks;
 	return blanks > 0;
@@ -79,7 +77,7 @@ const char *script_take_asks(struct script *script, const char *rest)
 		return take_open(script);
 	bool numbered = text_read_number(&behind, TEXT_FIGURES, &asks->number);
 	/* no hex has a small letter: what goes on with one says a place */
-	if (numbered && (*behind == '\0' || behind[strspn(behind, BLANKS)] == SCRIPT_AT[0]))
+	if (numbered && (*behind == '\0' || behind[strspn(behind, TEXT_BLANKS)] == SCRIPT_AT[0]))
 		return take_refusal(asks, behind);
 	asks->number = 0;
 	if (text_read_hex(rest, &bytes) != NULL || bytes.len != BLOCK)
@@ -94,9 +92,9 @@ static bool number_within(const qg_settings *settings, struct script_expected *a
 {
 	char digits[NUMBER + 1] = "";
 
-	if (answers->len < settings->header + CODE + NUMBER)
+	if (answers->len < settings->header + FIELDS_CODE + NUMBER)
 		return false;
-	memcpy(digits, answers->bytes + settings->header + CODE, NUMBER);
+	memcpy(digits, answers->bytes + settings->header + FIELDS_CODE, NUMBER);
 	return strlen(digits) == NUMBER && text_is_number(digits, &answers->number);
 }
 

@@ -94,6 +94,13 @@ const char *text_read_hex(const char *words, struct text_bytes *to)
 	return fault;
 }
 
+size_t text_trimmed(const char *line, size_t len)
+{
+	while (len > 0 && strchr(TEXT_BLANKS "\r", line[len - 1]) != NULL)
+		len--;
+	return len;
+}
+
 bool text_read_number(const char **words, size_t figures, uint32_t *number)
 {
 	const char *at = *words;

@@ -29,6 +29,13 @@ struct text_bytes {
 const char *text_read(const char *words, struct text_bytes *to);
 const char *text_read_hex(const char *words, struct text_bytes *to);
 
+/* What stands between the words of a line. */
+#define TEXT_BLANKS " \t"
+
+/* How long a line is without what does not count at its end: blanks, and a
+ * carriage return. */
+size_t text_trimmed(const char *line, size_t len);
+
 /* No number in a script has more figures, but for a place. */
 #define TEXT_FIGURES 3
 
