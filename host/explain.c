@@ -2,8 +2,8 @@
 
 #include <stdio.h>
 
-#include "colour.h"
 #include "meanings.h"
+#include "player.h"
 #include "text.h"
 #include "underline.h"
 
@@ -26,44 +26,16 @@
 /* A script is long. */
 static struct script script;
 
-static const char *yes_or_no(uint8_t flag)
+static void show_handed(const struct script_exchange *e)
 {
-	return flag != 0 ? "yes" : "no";
-}
-
-static void show_settings(const struct script_exchange *e)
-{
-	printf("settings    header %zu, restricted %s, variable %s\n", e->settings.header,
-		yes_or_no(e->settings.restricted), yes_or_no(e->settings.variable));
-	printf("command     %zu characters\n", e->command_len);
+	printf("%-11s ", "settings");
+	player_show_settings(e);
+	printf("\n%-11s %zu characters\n\n", "command", e->command_len);
 }
 
 static void show_number(const char *name, const qg_reply *reply)
 {
-	const char *words = meaning_of(reply->number);
-
-	printf("%-11s %02u, %s\n", name, (unsigned)reply->number,
-		words != NULL ? words : "not a number of the paper");
-}
-
-static const char *good_or_bad(uint8_t parity)
-{
-	return parity != 0 ? "good" : "bad";
-}
-
-static void show_slice(const char *name, const struct script_slice *slice)
-{
-	printf("%-11s ", name);
-	text_show_hex(stdout, slice->at, slice->len);
-	putchar('\n');
-}
-
-static void show_key_box(const struct script_exchange *e)
-{
-	show_slice("block", &e->block);
-	show_slice("enciphered", &e->enciphered);
-	printf("%-11s %s %s\n\n", "parity", good_or_bad(e->pin_key_parity_good),
-		good_or_bad(e->pvk_parity_good));
+	printf("%-11s %02u, %s\n", name, (unsigned)reply->number, meaning_in_words(reply->number));
 }
 
 /* What the answering call did. */
@@ -99,12 +71,9 @@ static void show_place(const struct fields_sent *sent, const qg_reply *reply)
 {
 	if (!fields_is_placed(sent, reply))
 		return;
-	struct underline_span span = { reply->place, fields_fault_end(sent, reply) };
-	printf("%*s%s", INDENT, "", colour_fault());
-	names_show_place(sent, reply);
-	printf("%s\n", colour_plain());
+	names_show_place(sent, reply, INDENT);
 	names_show_wanted(sent, reply, INDENT);
-	underline_show(sent->at, sent->len, span, INDENT);
+	underline_show(sent, reply, INDENT);
 }
 
 static void show_asked(const struct fields_sent *sent, const qg_reply *asked, const uint8_t *block)
@@ -149,8 +118,7 @@ static void tell(const struct script_exchange *e)
 	qg_reply asked = qg_ask(e->settings, sent.at, sent.len, block, sizeof block);
 	bool taken = asked.number == 0;
 
-	show_settings(e);
-	putchar('\n');
+	show_handed(e);
 	explain_fields(&sent, &asked);
 	putchar('\n');
 	show_asked(&sent, &asked, block);
@@ -158,7 +126,8 @@ static void tell(const struct script_exchange *e)
 		return;
 	answer(e, &sent, taken, &answered);
 	if (taken) {
-		show_key_box(e);
+		player_show_key_box(e, 0);
+		putchar('\n');
 		if (block_is_read(answered.reply.number))
 			explain_pin(e, &sent);
 		show_answer(&sent, &answered.reply);

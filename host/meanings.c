@@ -35,3 +35,10 @@ const char *meaning_of(uint32_t number)
 			return meanings[i].words;
 	return NULL;
 }
+
+const char *meaning_in_words(uint32_t number)
+{
+	const char *words = meaning_of(number);
+
+	return words != NULL ? words : "not a number of the paper";
+}

@@ -3,6 +3,7 @@
 #include <stdio.h>
 #include <string.h>
 
+#include "colour.h"
 #include "name_words.h"
 
 #define FIELDS 12
@@ -136,11 +137,12 @@ void names_meaning(const struct fields_sent *sent, const struct fields_one *fiel
 		of->mean(&what, words);
 }
 
-void names_show_place(const struct fields_sent *sent, const qg_reply *refusal)
+void names_show_place(const struct fields_sent *sent, const qg_reply *refusal, int indent)
 {
 	const char *name = names_field(sent, refusal->field);
 
-	printf("at %u, field %u", (unsigned)refusal->place, (unsigned)refusal->field);
+	printf("%*s%sat %u, field %u", indent, "", colour_fault(), (unsigned)refusal->place,
+		(unsigned)refusal->field);
 	if (name != NULL)
 		printf(", %s", name);
 	else if (refusal->place < sent->len)
@@ -149,6 +151,7 @@ void names_show_place(const struct fields_sent *sent, const qg_reply *refusal)
 		printf(": a block of the key box is not 8 bytes");
 	if (fields_disagree(sent, refusal))
 		printf(": the LMK ids disagree, and this is the last");
+	printf("%s\n", colour_plain());
 }
 
 /* What is wanted of the key block that a refusal is about, or NULL where it is

@@ -28,11 +28,10 @@ const char *names_field(const struct fields_sent *sent, uint32_t number);
 void names_meaning(const struct fields_sent *sent, const struct fields_one *field,
 	char words[NAMES_ROOM]);
 
-/* Prints, without an end of line, what a refusal's place and field are. */
-void names_show_place(const struct fields_sent *sent, const qg_reply *refusal);
-
-/* Prints, in lines that stand so far from the left, what is wanted where a refusal
- * points. Where no field by itself is at fault it prints nothing. */
+/* Both print lines that stand so far from the left: what a refusal's place and
+ * field are, and what is wanted there. Where no field by itself is at fault the
+ * second prints nothing. */
+void names_show_place(const struct fields_sent *sent, const qg_reply *refusal, int indent);
 void names_show_wanted(const struct fields_sent *sent, const qg_reply *refusal, int indent);
 
 #endif

@@ -14,7 +14,9 @@
 /* Bytes behind the lent output, where a call has no business. */
 #define MARGIN 16
 
-/* How far what is shown stands from the left, behind its name. */
+/* How far the lines of an exchange stand from the left, and what is shown in them
+ * behind its name. */
+#define LEFT 2
 #define INDENT 14
 
 #define SENT(e) (e)->command, (e)->command_len
@@ -46,20 +48,6 @@ static size_t shown(const struct outcome *outcome)
 	return outcome->reply.written <= SCRIPT_ROOM ? outcome->reply.written : SCRIPT_ROOM;
 }
 
-static const char *in_words(uint32_t number)
-{
-	const char *words = meaning_of(number);
-
-	return words != NULL ? words : "not a number of the paper";
-}
-
-static void show_slice(const char *name, const struct script_slice *slice)
-{
-	printf("  %-11s ", name);
-	text_show_hex(stdout, slice->at, slice->len);
-	putchar('\n');
-}
-
 static bool is_placed(const qg_reply *reply)
 {
 	return reply->place != 0 || reply->field != 0;
@@ -75,18 +63,15 @@ static void show_place(const struct script_exchange *e, const qg_reply *reply,
 	if (!fields_is_placed(&sent, reply) ||
 		(before != NULL && before->place == reply->place && before->field == reply->field))
 		return;
-	struct underline_span span = { reply->place, fields_fault_end(&sent, reply) };
-	printf("  %-11s ", "");
-	names_show_place(&sent, reply);
-	putchar('\n');
-	underline_show(SENT(e), span, INDENT);
+	names_show_place(&sent, reply, INDENT);
+	underline_show(&sent, reply, INDENT);
 }
 
 static void show_outcome(const char *name, const struct outcome *outcome,
 	void (*show)(FILE *stream, const uint8_t *bytes, size_t len))
 {
 	printf("  %-11s %02u, %s\n", name, (unsigned)outcome->reply.number,
-		in_words(outcome->reply.number));
+		meaning_in_words(outcome->reply.number));
 	if (outcome->reply.written == 0)
 		return;
 	printf("  %-11s ", "");
@@ -104,21 +89,34 @@ static const char *good_or_bad(uint8_t parity)
 	return parity != 0 ? "good" : "bad";
 }
 
+void player_show_settings(const struct script_exchange *e)
+{
+	printf("header %zu, restricted %s, variable %s", e->settings.header,
+		yes_or_no(e->settings.restricted), yes_or_no(e->settings.variable));
+}
+
 static void show_handed(const struct script_exchange *e)
 {
-	printf("  %-11s header %zu, restricted %s, variable %s; room %zu\n", "settings",
-		e->settings.header, yes_or_no(e->settings.restricted),
-		yes_or_no(e->settings.variable), e->room);
+	printf("  %-11s ", "settings");
+	player_show_settings(e);
+	printf("; room %zu\n", e->room);
 	printf("  %-11s ", "command");
 	text_show(stdout, SENT(e));
 	putchar('\n');
 }
 
-static void show_key_box(const struct script_exchange *e)
+static void show_slice(const char *name, const struct script_slice *slice, int indent)
 {
-	show_slice("block", &e->block);
-	show_slice("enciphered", &e->enciphered);
-	printf("  %-11s %s %s\n", "parity", good_or_bad(e->pin_key_parity_good),
+	printf("%*s%-11s ", indent, "", name);
+	text_show_hex(stdout, slice->at, slice->len);
+	putchar('\n');
+}
+
+void player_show_key_box(const struct script_exchange *e, int indent)
+{
+	show_slice("block", &e->block, indent);
+	show_slice("enciphered", &e->enciphered, indent);
+	printf("%*s%-11s %s %s\n", indent, "", "parity", good_or_bad(e->pin_key_parity_good),
 		good_or_bad(e->pvk_parity_good));
 }
 
@@ -135,7 +133,8 @@ static bool hold_number(const char *name, uint32_t got, uint32_t expected)
 	if (got == expected)
 		return true;
 	printf("  DIFFERS     %s: the number is %02u, %s; expected %02u, %s\n", name,
-		(unsigned)got, in_words(got), (unsigned)expected, in_words(expected));
+		(unsigned)got, meaning_in_words(got), (unsigned)expected,
+		meaning_in_words(expected));
 	return false;
 }
 
@@ -222,7 +221,7 @@ bool player_play(const struct script_exchange *e)
 	show_handed(e);
 	show_outcome("asks", &asked, text_show_hex);
 	show_place(e, &asked.reply, NULL);
-	show_key_box(e);
+	player_show_key_box(e, LEFT);
 	show_outcome("answers", &answered, text_show);
 	show_place(e, &answered.reply, &asked.reply);
 	bool asked_well = hold("asks", &asked, &e->asks);

@@ -10,6 +10,12 @@
 /* Makes both calls and prints the exchange. True where it went as expected. */
 bool player_play(const struct script_exchange *e);
 
+/* Print of an exchange, in the same words for all that show one, the settings,
+ * without an end of line, and the key box's answers, in lines that stand so far
+ * from the left. */
+void player_show_settings(const struct script_exchange *e);
+void player_show_key_box(const struct script_exchange *e, int indent);
+
 /* Print what a call did in the form of the script's lines, so that it can be
  * expected. */
 void player_write_asked(const struct script_exchange *e);

@@ -1,6 +1,5 @@
 #include "underline.h"
 
-#include <stdbool.h>
 #include <stdio.h>
 
 #include "colour.h"
@@ -10,15 +9,16 @@
  * behind them that stays under 100. */
 #define COLUMNS 70
 
-/* The bytes of a row: from one place to before another. */
-struct row {
+/* Bytes of the command, from one place to before another: those of a row, or
+ * those that are underlined. */
+struct span {
 	size_t from;
 	size_t to;
 };
 
-static struct row row_at(const uint8_t *bytes, size_t len, size_t from)
+static struct span row_at(const struct fields_sent *sent, size_t from)
 {
-	struct row row = { from, from + text_fitting(bytes + from, len - from, COLUMNS) };
+	struct span row = { from, from + text_fitting(sent->at + from, sent->len - from, COLUMNS) };
 
 	return row;
 }
@@ -29,7 +29,7 @@ static void repeat(char c, size_t count)
 		putchar(c);
 }
 
-static void show_bytes(const uint8_t *bytes, struct row row, int indent)
+static void show_bytes(const uint8_t *bytes, struct span row, int indent)
 {
 	printf("%*s%4zu  ", indent, "", row.from);
 	for (size_t i = row.from; i < row.to; i++)
@@ -37,33 +37,33 @@ static void show_bytes(const uint8_t *bytes, struct row row, int indent)
 	putchar('\n');
 }
 
-static void show_marks(const uint8_t *bytes, struct row row, struct underline_span span, int indent)
+static void show_marks(const uint8_t *bytes, struct span row, struct span under, int indent)
 {
 	printf("%*s%4s  %s", indent, "", "", colour_fault());
-	for (size_t i = row.from; i < row.to && i < span.to; i++)
-		repeat(i < span.from ? ' ' : '^', text_columns(bytes[i]));
-	if (span.from == span.to)
+	for (size_t i = row.from; i < row.to && i < under.to; i++)
+		repeat(i < under.from ? ' ' : '^', text_columns(bytes[i]));
+	if (under.from == under.to)
 		putchar('^');
 	printf("%s\n", colour_plain());
 }
 
 /* Whether something of a row is underlined. What is empty stands in the row that
  * its place is in, or behind the last. */
-static bool marked(struct row row, struct underline_span span, size_t len)
+static bool marked(struct span row, struct span under, size_t len)
 {
-	if (span.from == span.to)
-		return span.from >= row.from && (span.from < row.to || row.to == len);
-	return span.from < row.to && span.to > row.from;
+	if (under.from == under.to)
+		return under.from >= row.from && (under.from < row.to || row.to == len);
+	return under.from < row.to && under.to > row.from;
 }
 
-void underline_show(const uint8_t *bytes, size_t len, struct underline_span span, int indent)
+void underline_show(const struct fields_sent *sent, const qg_reply *refusal, int indent)
 {
-	struct row row = { 0, 0 };
+	struct span row = { 0, 0 }, under = { refusal->place, fields_fault_end(sent, refusal) };
 
 	do {
-		row = row_at(bytes, len, row.to);
-		show_bytes(bytes, row, indent);
-		if (marked(row, span, len))
-			show_marks(bytes, row, span, indent);
-	} while (row.to < len);
+		row = row_at(sent, row.to);
+		show_bytes(sent->at, row, indent);
+		if (marked(row, under, sent->len))
+			show_marks(sent->at, row, under, indent);
+	} while (row.to < sent->len);
 }
