@@ -107,7 +107,7 @@ static void show_handed(const struct script_exchange *e)
 
 static void show_slice(const char *name, const struct script_slice *slice, int indent)
 {
-	printf("%*s%-11s ", indent, "", name);
+	printf("%*s%-11s %s", indent, "", name, slice->len == 0 ? "none" : "");
 	text_show_hex(stdout, slice->at, slice->len);
 	putchar('\n');
 }
