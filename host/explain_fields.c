@@ -99,7 +99,8 @@ static void show_frame(const struct fields_sent *sent, const qg_reply *asked)
 	}
 	if (header > 0)
 		show_row(row_of(sent, "header", 0, header, "comes back as it stands"));
-	struct row code = row_of(sent, "code", header, header + FIELDS_CODE, words != NULL ? words : "REFUSED");
+	struct row code = row_of(sent, "code", header, header + FIELDS_CODE,
+		words != NULL ? words : "REFUSED");
 	code.faulty = words == NULL;
 	show_row(code);
 }

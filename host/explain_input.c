@@ -75,7 +75,8 @@ static bool take_line(struct script *script, const char *line)
 {
 	line += strspn(line, TEXT_BLANKS);
 	if (script->exchanges > 0 && *line != '\0' && *line != '#')
-		return refuse(NULL, "one exchange is explained at a time, and behind its answers line more follows");
+		return refuse(NULL,
+			"one exchange is explained at a time, and behind its answers line more follows");
 	if (script_take(script, line) != SCRIPT_FAULT)
 		return true;
 	if (script->word == NULL || script->begun)
@@ -166,7 +167,8 @@ static bool split(char **words, int len, struct words *found)
 		} else if (!plain && strncmp(words[i], "--", 2) == 0) {
 			return refuse(words[i], "there is no such option");
 		} else if (found->command != NULL) {
-			return refuse(words[i], "a command is one word: where it has blanks, put it in quotes");
+			return refuse(words[i],
+				"a command is one word: where it has blanks, put it in quotes");
 		} else {
 			found->command = words[i];
 		}

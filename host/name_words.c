@@ -109,9 +109,11 @@ void mean_check(const struct names_of *of, char words[NAMES_ROOM])
 	int zero = digits[0] == '0';
 
 	if (of->settings->variable != 0)
-		snprintf(words, NAMES_ROOM, "decides nothing: variable is yes, and the offset covers the whole PIN");
+		snprintf(words, NAMES_ROOM,
+			"decides nothing: variable is yes, and the offset covers the whole PIN");
 	else
-		snprintf(words, NAMES_ROOM, "the offset covers the last %.*s digits", 2 - zero, digits + zero);
+		snprintf(words, NAMES_ROOM, "the offset covers the last %.*s digits", 2 - zero,
+			digits + zero);
 }
 
 void mean_account(const struct names_of *of, char words[NAMES_ROOM])

@@ -25,7 +25,8 @@ static const char any_key[] = "U and 32 hex, T and 48 hex, or S and a key block"
 #define CHECK { "check length", "two digits, 04 to 12", mean_check }
 #define ACCOUNT { "account", "12 digits", mean_account }
 #define TABLE { "table", "16 digits", mean_table }
-#define VALIDATION { "validation data", "12 characters, eleven hex and one N; or P and 16 hex", mean_validation }
+#define VALIDATION \
+	{ "validation data", "12 characters, eleven hex and one N; or P and 16 hex", mean_validation }
 #define LMK { "LMK id", "% and 00 to 09", mean_lmk }
 #define TRAILER { "trailer", "19 hex and 0 to 32 printable characters", mean_trailer }
 
@@ -35,7 +36,8 @@ static const struct field_words of_bk[FIELDS] = {
 	{ "PIN key", two_keys, mean_key },
 	{ "PVK", two_keys, mean_key },
 	PIN_BLOCK, FORMAT, CHECK, ACCOUNT, TABLE, VALIDATION,
-	{ "weak PINs", "; and a count of two digits; unless 00, a length of 04 to 12 and the list", mean_weak },
+	{ "weak PINs", "; and a count of two digits; unless 00, a length of 04 to 12 and the list",
+		mean_weak },
 	LMK, TRAILER,
 };
 

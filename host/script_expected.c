@@ -108,11 +108,13 @@ static const char *take_response(struct script *script, const char *rest)
 	if (is_open(rest))
 		return take_open(script);
 	if (skip_word(&rest, SCRIPT_AT) && !read_place(&rest, answers))
-		return "answers: behind at stand a place, field and a number; a response that begins so is written \\x61t";
+		return "answers: behind at stand a place, field and a number; "
+			"a response that begins so is written \\x61t";
 	if (strncmp(rest, SCRIPT_NOTHING, word) == 0)
 		return text_is_number(rest + word, &answers->number) &&
 			(answers->number == 901 || answers->number == 902) ? NULL :
-			"answers: behind nothing stands 901 or 902; a response that begins so is written \\x6Eothing";
+			"answers: behind nothing stands 901 or 902; "
+			"a response that begins so is written \\x6Eothing";
 	const char *fault = text_read(rest, &bytes);
 	answers->len = bytes.len;
 	if (fault == NULL && !number_within(&script->now.settings, answers))
