@@ -23,17 +23,17 @@
  *   --parity PIN PVK      good or bad, for either key; good where not given
  *   --                    ends the options, for a command that begins with --
  *
- * With --block and --enciphered, or such lines of a script, it goes on behind
- * the fields: with the block, the PIN, the offset and the response. The row of the
- * block without the account is had by writing the PIN again, so a block that is
- * refused, which has no PIN, shows no such row. A script's `room` line is not
- * heeded: both calls are lent as much as they need.
+ * An option is given once. With --block and --enciphered, or such lines of a
+ * script, it goes on behind the fields: with the block, the PIN, the offset and
+ * the response. The row of the block without the account is had by writing the
+ * PIN again, so a block that is refused, which has no PIN, shows no such row. A
+ * script's `room` line is not heeded: both calls are lent as much as they need.
  *
  * No line has more than 100 columns; a blank at either end of a line of the
- * response is shown as \x20. Colours are for terminals alone. Status 0:
- * the command is explained, whether the box takes it or not; 1: it could not be
- * printed whole; 2: the words were malformed, and one line on stderr says what
- * is wrong.
+ * response is shown as \x20. Colours are for terminals alone. Status 0: the
+ * command is explained, whether the box takes it or not; 1: it could not be
+ * printed whole; 2: the words were malformed, and one line on stderr says what is
+ * wrong.
  */
 #ifndef HOST_EXPLAIN_H
 #define HOST_EXPLAIN_H
