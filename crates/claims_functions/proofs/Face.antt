@@ -7,7 +7,7 @@ pub face-once : FaceSettled
 face-once = record {
   inner = λ κs a r r′ ends ends′. settled;
   flag = λ κs a r r′ ends ends′. settled;
-  pointing = λ κs a r r′ ends ends′. faces;
+  wide = λ κs a r r′ ends ends′. faces;
   plain = λ κs a r r′ ends ends′. faces;
 }
 

@@ -8,7 +8,7 @@ use Rattle.claims_functions.specs.Once.{Settled}
 pub record FaceSettled : Type 0 where
   pub inner : Settled Crossing.inner.ended Crossing.inner.Reads.Learnt
   pub flag : Settled Crossing.flag.ended Crossing.flag.Reads.Learnt
-  pub pointing : Settled Crossing.pointing.ended Crossing.pointing.Reads.Learnt
+  pub wide : Settled Crossing.wide.ended Crossing.wide.Reads.Learnt
   pub plain : Settled Crossing.plain.ended Crossing.plain.Reads.Learnt
 
 -- every call of quillgimlet

@@ -1,20 +1,21 @@
 -- Texts one behind the other, and the faults of fields and stages.
 -- Assumes nothing.
-use Prim.Native.Nat.{ℕ, _+_, _-_, _≤_, _<_}
+use Prim.Native.Nat.{ℕ, _+_, _≤_, _<_}
 use native.Mathlib.Nat.{add-assoc, add-zero}
 use native.Mathlib.Omega.{arith}
 use mathlib.Core.Path.{_≡_, refl, sym, ap, ap₂, _∙_, subst}
 use mathlib.Core.List.{List, [], _∷_, _++_, append-assoc, append-nil}
 use lib.ListN.{length, take, drop, length-append, length-drop, take-append-drop}
-use lib.Seq.{take-append-add, take-append-le, drop-append-le, length-take-le}
+use lib.Seq.{drop-append-le, length-take-le}
 use Rattle.numbers.specs.Numbers.{done, refused}
+use Rattle.numbers.specs.declared.Refusal.{Refusal}
 use Rattle.fields.specs.Fields.{Found, Stage, read, faulty, field, fielded, onward}
 use Rattle.fields.specs.declared.Fault.{Fault}
 use Rattle.texts.specs.Texts.{together}
 use Rattle.texts.specs.Exact.{Writing, Opens, Exact, ExactAt}
 use Rattle.texts.proofs.Closing.{past-text}
 use Rattle.texts.proofs.Runs.{fronts}
-use Rattle.claims_places.specs.Begins.{Between, Begins, SharedAlike}
+use Rattle.claims_places.specs.Begins.{Between, SharedAlike}
 
 -- ---- texts between two places
 
@@ -58,7 +59,7 @@ between-shared s t start place ts h e b =
     record { bytes = split t there ∙ ap (λ (l : List ℕ). l ++ drop place t) (ap (drop start) (sym e) ∙ front .0); reached = b .reached }
 
 pub shared-alike : SharedAlike
-shared-alike P Are texts s t start place n h e (p, good, b) = (p, good, between-shared s t start place (take n (texts p)) h e b)
+shared-alike P form s t start place n p h e (good, b) = (good, between-shared s t start place (take n (form .texts p)) h e b)
 
 -- ---- faults
 
@@ -76,15 +77,26 @@ opened {A} {C} w texts whole s at n past a next o reached g behind =
     behind p past (subst (w .fine p) rest (o .good)) (subst (λ (k : ℕ). Between s at k (texts p)) (sym end) (between-whole s at (w .text p) (o .rest) (texts p) (whole p) (o .whole)))
     (subst (λ (x : A). next x past) (o .same) g)
 
+-- no part of a field's stands at a place
+abbrev pub None : {A : Type 0} → Writing A → List ℕ → ℕ → Type 0
+None w s at = (p : w .Part) (end : ℕ) → w .fine p (drop end s) → Between s at end (w .text p ∷ []) → ⊥
+
+-- since it would have been read
+refused-none : {A : Type 0} (reader : List ℕ → Found A) (w : Writing A) → Exact reader w → (s : List ℕ) (at : ℕ) (q : Refusal) → reader (drop at s) ≡ refused q → None w s at
+refused-none reader w x s at q e p end g b =
+    let here = b .bytes ∙ ap (λ (l : List ℕ). l ++ drop end s) (append-nil (w .text p)) in
+    let both = sym e ∙ ap reader here ∙ x .back p (drop end s) g in
+    let z : _≡_ {A = ℕ} 0 1 = cc in omega arith
+
 -- a field's own fault, or one behind it
 pub field-fault : {A B C : Type 0} (k : ℕ) (reader : List ℕ → Found A) (w : Writing A) (x : Exact reader w) (s : List ℕ) (at : ℕ) (next : A → ℕ → Stage B) (f : Fault)
-    → field k reader s at next ≡ faulty f → ((f .field ≡ k) × (f .place ≡ at) → C) → Behind w (λ p. w .text p ∷ []) s at (λ a past. next a past ≡ faulty f) C → C
+    → field k reader s at next ≡ faulty f → (None w s at → (f .field ≡ k) × (f .place ≡ at) → C) → Behind w (λ p. w .text p ∷ []) s at (λ a past. next a past ≡ faulty f) C → C
 field-fault {A} {B} {C} k reader w x s at next f e own behind = by-found (reader (drop at s)) refl e
   where
     by-found : (o : Found A) → reader (drop at s) ≡ o → fielded k at o next ≡ faulty f → C
     by-found (done r) h g =
         opened w (λ p. w .text p ∷ []) (λ p. sym (append-nil (w .text p))) s at (r .1) (at + r .1) (r .0) (λ a past. next a past ≡ faulty f) (x .only (drop at s) (r .0) (r .1) h) refl g behind
-    by-found (refused q) h g = let same : record { refusal = q; field = k; place = at } ≡ f = cc in own (sym (ap (λ (y : Fault). y .field) same), sym (ap (λ (y : Fault). y .place) same))
+    by-found (refused q) h g = let same : record { refusal = q; field = k; place = at } ≡ f = cc in own (refused-none reader w x s at q h) (sym (ap (λ (y : Fault). y .field) same), sym (ap (λ (y : Fault). y .place) same))
 
 -- a stage's own fault, or one behind it, where its text is that of some fields
 pub onward-fault : {A B C : Type 0} (s : List ℕ) (at : ℕ) (stage : Stage A) (w : Writing A) (x : ExactAt s at stage w) (texts : w .Part → List (List ℕ)) (whole : (p : w .Part) → w .text p ≡ together (texts p))
@@ -107,25 +119,14 @@ last-fault (faulty g) value f e own = let same : g ≡ f = cc in own (ap faulty 
 
 -- ---- a stage that halts at one of its fields
 
--- its fields are counted from `first`; `count` of them stand before the place
-pub record Halts {P : Type 0} (Are : P → Type 0) (texts : P → List (List ℕ)) (first : ℕ) (s : List ℕ) (at : ℕ) (f : Fault) : Type 0 where
+-- its fields are counted from `first`; `count` of them stand before the place, and the next one does not stand at it. `Last` is what a
+-- trailer needs beside its text
+pub record Halts {P : Type 0} (Are : P → Type 0) (texts : P → List (List ℕ)) (Last : P → List ℕ → Type 0) (first : ℕ) (s : List ℕ) (at : ℕ) (f : Fault) : Type 0 where
   pub parts : P
   pub are : Are parts
   pub count : ℕ
   pub short : count < length (texts parts)
   pub field : f .field ≡ first + count
   pub between : Between s at (f .place) (take count (texts parts))
-
--- a command halts where its stage does: before it stand some texts, and its parts hold those and the stage's
-pub halts-begins :
-    {P Q : Type 0} (Are : P → Type 0) (texts : P → List (List ℕ)) (AreQ : Q → Type 0) (textsQ : Q → List (List ℕ)) (first : ℕ) (s : List ℕ) (start at : ℕ) (f : Fault)
-    (ts more : List (List ℕ)) → Between s start at ts → (h : Halts AreQ textsQ first s at f) → first ≡ 1 + length ts
-    → (p : P) → Are p → texts p ≡ ts ++ (textsQ (h .parts) ++ more)
-    → (1 ≤ f .field) × (f .field ≤ length (texts p)) × Begins Are texts s start (f .place) (f .field - 1)
-halts-begins Are texts AreQ textsQ first s start at f ts more b h counted p good same =
-    let field = h .field in
-    let short = h .short in
-    let before : f .field - 1 ≡ length ts + h .count = omega arith in
-    let taken : take (f .field - 1) (texts p) ≡ ts ++ take (h .count) (textsQ (h .parts)) = ap₂ take before same ∙ take-append-add ts (textsQ (h .parts) ++ more) (h .count) ∙ ap (λ (l : List (List ℕ)). ts ++ l) (take-append-le (h .count) (textsQ (h .parts)) more (omega arith)) in
-    let long : length (texts p) ≡ length ts + (length (textsQ (h .parts)) + length more) = ap length same ∙ length-append ts (textsQ (h .parts) ++ more) ∙ ap (λ (n : ℕ). length ts + n) (length-append (textsQ (h .parts)) more) in
-    (omega arith, omega arith, (p, good, subst (Between s start (f .place)) (sym taken) (between-append s start at (f .place) ts _ b (h .between))))
+  pub failed : (x : P) → Are x → take count (texts x) ≡ take count (texts parts) → (end : ℕ) → f .place < end → Between s (f .place) end (take 1 (drop count (texts x)))
+      → (f .field ≡ 12 → Last x (drop end s)) → ⊥

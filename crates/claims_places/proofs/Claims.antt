@@ -5,7 +5,7 @@ use native.Mathlib.Omega.{arith}
 use mathlib.Core.Path.{_≡_, refl, sym, ap, _∙_, subst}
 use mathlib.Core.Logic.{_⊎_, inl, inr}
 use mathlib.Core.List.{List, [], _∷_}
-use mathlib.Core.Bool.{Bool, true, false}
+use mathlib.Core.Bool.{Bool, true, false, not}
 use lib.ListN.{length, drop}
 use lib.Dec.{leb, eqb}
 use borrow.Author.Tests.{le-leb, eqb-true, eq-eqb}
@@ -19,7 +19,8 @@ use Rattle.settings.specs.declared.Settings.{Settings}
 use Rattle.frame.specs.Frame.{isFramed, codeOf}
 use Rattle.frame.specs.declared.Code.{Code}
 use Rattle.frame.specs.declared.Code.the-variants.{Bk, Da, Ea, Other}
-use Rattle.fields.specs.Fields.{Stage, read, faulty, Ruling, ruled, pointing, unpointed, heard, shown, outcome}
+use Rattle.fields.specs.Fields.{Stage, read, faulty, Ruling, ruled, pointing, unpointed, heard, pointerOf, nowhere, shown, outcome}
+use Rattle.fields.specs.declared.Pointer.{Pointer}
 use Rattle.fields.proofs.Reading.{ruled-read}
 use Rattle.fields.proofs.Rulings.{pointing-done}
 use Rattle.fields.specs.declared.Fault.{Fault}
@@ -37,7 +38,7 @@ use Rattle.places.proofs.Calls.{asking-rules, replying-rules}
 use Rattle.claims_blocks.specs.Promises.{listed}
 use Rattle.claims_blocks.proofs.Judged.{Only, then-only, test-only, done-only}
 use Rattle.claims_commands.specs.Runs.{codeIn, pairIn, comparedIn, Verifying, terminal, zone, keyFor}
-use Rattle.claims_commands.proofs.Fields.{In, wider, fields-give, verify-fields-give, fieldNumbers, sharedNumbers}
+use Rattle.claims_commands.proofs.Fields.{In, listed-passes, wider, fields-give, verify-fields-give, fieldNumbers, sharedNumbers}
 use Rattle.claims_commands.proofs.Shapes.{Shape, pair-only}
 use Rattle.claims_commands.proofs.Listing.{bkShape}
 use Rattle.claims_commands.proofs.Verifying.{verifyShape, verdict-only}
@@ -45,9 +46,8 @@ use Rattle.claims_commands.proofs.Numbers.{rest-only}
 use Rattle.claims_commands.proofs.Cores.{asked-done, verify-asked, refused-alike}
 use Rattle.texts_keys.specs.KeyTexts.{terminalKeyRule, zoneKeyRule}
 use Rattle.claims_exactly.specs.VerifyText.{pinKeyRuleOf}
-use Rattle.claims_places.specs.FieldTexts.{bkFieldTexts, verifyFieldTexts}
-use Rattle.claims_places.specs.Begins.{AreBk, AreVerify, BkTook, VerifyTook, PointsAt}
-use Rattle.claims_places.specs.Claims.{numberIn, OneFault, AtNothing, InCommand, atTheEnd, SlicesShort, AskPoints, AnswerPoints, BothPointAlike, SlicesAtTheEnd, PlaceInside}
+use Rattle.claims_places.specs.Begins.{bkForm, verifyForm, PointsAt}
+use Rattle.claims_places.specs.Claims.{numberIn, OneFault, AtNothing, InCommand, AtFields, AtTheEnd, SlicesNotEight, AskPoints, AnswerPoints, BothPointAlike, SlicesAtTheEnd, PlaceInside, NothingShown, NumbersShowNothing}
 use Rattle.claims_places.proofs.Begins.{bk-points-at}
 use Rattle.claims_places.proofs.VerifyBegins.{verify-points-at}
 
@@ -79,12 +79,19 @@ unpointedNumbers = 1 ∷ 10 ∷ 11 ∷ 20 ∷ 24 ∷ 68 ∷ 81 ∷ 86 ∷ 901 �
 abbrev AtNone : Refusal → Type 0
 AtNone = In unpointedNumbers
 
+-- of a fault what is claimed of what is shown of it
+abbrev Nothing : Fault → Type 0
+Nothing f = AtNothing (f .refusal) (pointerOf f)
+
+abbrev atTheEnd : List ℕ → Fault
+atTheEnd s = record { refusal = Field15; field = 0; place = length s }
+
 fault-of : {A : Type 0} {f g : Fault} → _≡_ {A = Ruling A} (refused f) (refused g) → f ≡ g
 fault-of e = cc
 
-unpointed-nothing : {A : Type 0} (o : Outcome A) (f : Fault) → Only AtNone o → unpointed o ≡ refused f → AtNothing f
+unpointed-nothing : {A : Type 0} (o : Outcome A) (f : Fault) → Only AtNone o → unpointed o ≡ refused f → Nothing f
 unpointed-nothing (done a) f only e = absurd (let z : _≡_ {A = ℕ} 0 1 = cc in omega arith)
-unpointed-nothing (refused q) f only e = subst AtNothing (fault-of e) (only q refl, refl)
+unpointed-nothing (refused q) f only e = subst Nothing (fault-of e) (only q refl, refl)
 
 -- judgement after judgement
 then-fault : {A B C : Type 0} (o : Ruling A) (next : A → Ruling B) (f : Fault) → andThen o next ≡ refused f → (o ≡ refused f → C) → ((a : A) → o ≡ done a → next a ≡ refused f → C) → C
@@ -105,13 +112,13 @@ abbrev rows : Bool → Bool → List ℕ → List ℕ → Outcome (List ℕ × L
 rows x y block enciphered = andThen (unless Field15 x (nibs block)) (λ ns. andThen (unless Field15 y (nibs enciphered)) (λ es. done (ns, es)))
 
 -- slices that are not 8 bytes point at an end, and no others are refused
-slices-where : (end : ℕ) (block enciphered : List ℕ) (f : Fault) → pointing 0 end (slices block enciphered) ≡ refused f → (f ≡ record { refusal = Field15; field = 0; place = end }) × SlicesShort block enciphered
+slices-where : (end : ℕ) (block enciphered : List ℕ) (f : Fault) → pointing 0 end (slices block enciphered) ≡ refused f → (f ≡ record { refusal = Field15; field = 0; place = end }) × SlicesNotEight block enciphered
 unfolding slices
 slices-where end block enciphered f e = by-tests (eqb (length block) 8) (eqb (length enciphered) 8) refl refl e
   where
     by-tests : (x y : Bool) → eqb (length block) 8 ≡ x → eqb (length enciphered) 8 ≡ y
         → pointing 0 end (rows x y block enciphered) ≡ refused f
-        → (f ≡ record { refusal = Field15; field = 0; place = end }) × SlicesShort block enciphered
+        → (f ≡ record { refusal = Field15; field = 0; place = end }) × SlicesNotEight block enciphered
     by-tests true true hx hy h = absurd (let z : _≡_ {A = ℕ} 0 1 = cc in omega arith)
     by-tests true false hx hy h = (sym (fault-of h), λ _ l. test-false (length enciphered) hy l)
     by-tests false y hx hy h = (sym (fault-of h), λ l _. test-false (length block) hx l)
@@ -120,7 +127,7 @@ parities-nothing : (g h : Bool) → Only AtNone (parities g h)
 unfolding parities
 parities-nothing g h = then-only AtNone (unless PinKeyParity10 g (tt {0})) _ (test-only AtNone PinKeyParity10 refl g (tt {0})) (λ _. test-only AtNone PvkParity11 refl h (tt {0}))
 
-box-where : {There : Type 0} (g h : Bool) (s block enciphered : List ℕ) (f : Fault) → boxed (length s) g h block enciphered ≡ refused f → AtNothing f ⊎ (There ⊎ ((f ≡ atTheEnd s) × SlicesShort block enciphered))
+box-where : {There : Type 0} (g h : Bool) (s block enciphered : List ℕ) (f : Fault) → boxed (length s) g h block enciphered ≡ refused f → Nothing f ⊎ (There ⊎ ((f ≡ atTheEnd s) × SlicesNotEight block enciphered))
 unfolding boxed
 box-where g h s block enciphered f e =
     then-fault (pointing 0 (length s) (slices block enciphered)) _ f e (λ own. inr (inr (slices-where (length s) block enciphered f own)))
@@ -128,7 +135,7 @@ box-where g h s block enciphered f e =
     (λ _ _ e₃. absurd (let z : _≡_ {A = ℕ} 0 1 = cc in omega arith)))
 
 -- and such slices are refused
-box-short : (g h : Bool) (s block enciphered : List ℕ) → SlicesShort block enciphered → boxed (length s) g h block enciphered ≡ refused (atTheEnd s)
+box-short : (g h : Bool) (s block enciphered : List ℕ) → SlicesNotEight block enciphered → boxed (length s) g h block enciphered ≡ refused (atTheEnd s)
 unfolding boxed slices
 box-short g h s block enciphered short = by-tests (eqb (length block) 8) (eqb (length enciphered) 8) refl refl
   where
@@ -154,7 +161,7 @@ module _ {command : Code} {settings : Settings} {A B : Type 0} (c : Shape comman
 
   -- what the answering call refuses: its fields, or a slice, or what points at nothing
   answer-where : (g h : Bool) (s : List ℕ) (at : ℕ) (block enciphered : List ℕ) (f : Fault) → answerBy command settings g h s at block enciphered ≡ refused f
-      → AtNothing f ⊎ (There s at f ⊎ ((f ≡ atTheEnd s) × SlicesShort block enciphered))
+      → Nothing f ⊎ (There s at f ⊎ ((f ≡ atTheEnd s) × SlicesNotEight block enciphered))
   answer-where g h s at block enciphered f e =
       then-fault (ruled (c .reader s at)) _ f (sym (c .answers g h s at block enciphered) ∙ e) (λ own. inr (inl (fields s at f (ruled-fault (c .reader s at) f own))))
       (λ a _ e₂. then-fault (boxed (length s) g h block enciphered) _ f e₂ (box-where g h s block enciphered f)
@@ -163,7 +170,7 @@ module _ {command : Code} {settings : Settings} {A B : Type 0} (c : Shape comman
       (λ _ _ e₄. absurd (let z : _≡_ {A = ℕ} 0 1 = cc in omega arith))))
 
   -- a command that the asking call takes is answered 15 at its end, where a slice is not 8 bytes
-  answer-short : (g h : Bool) (s : List ℕ) (at : ℕ) (block enciphered bytes : List ℕ) → askBy command settings s at ≡ done bytes → SlicesShort block enciphered
+  answer-short : (g h : Bool) (s : List ℕ) (at : ℕ) (block enciphered bytes : List ℕ) → askBy command settings s at ≡ done bytes → SlicesNotEight block enciphered
       → answerBy command settings g h s at block enciphered ≡ refused (atTheEnd s)
   answer-short g h s at block enciphered bytes e short =
       let r = then-done (ruled (c .reader s at)) _ bytes (sym (c .asks s at) ∙ e) in
@@ -191,36 +198,36 @@ unfolding verifyFinish
 verify-finish variable s v rows = then-only AtNone (comparedIn s v rows) _ (pair-only AtNone refl refl _ _ _) (verdict-only AtNone refl refl variable s v)
 
 module _ (settings : Settings) where
-  bk-fields : (s : List ℕ) (at : ℕ) (f : Fault) → bkFields (settings .restricted) s at ≡ faulty f → Numbered (PointsAt (AreBk (settings .restricted)) bkFieldTexts BkTook s at) f
+  bk-fields : (s : List ℕ) (at : ℕ) (f : Fault) → bkFields (settings .restricted) s at ≡ faulty f → Numbered (λ g. PointsAt (bkForm (settings .restricted)) s at (pointerOf g)) f
   unfolding every
   bk-fields s at f e =
       (fault-number atFieldNumbers (bkFields (settings .restricted) s at) f e (wider fieldNumbers atFieldNumbers _ refl (fields-give (settings .restricted) s at)), bk-points-at (settings .restricted) s at f e)
 
-  verify-fields : (w : Verifying) (s : List ℕ) (at : ℕ) (f : Fault) → verifyFields (keyFor w) s at ≡ faulty f → Numbered (PointsAt (AreVerify (pinKeyRuleOf w)) verifyFieldTexts VerifyTook s at) f
+  verify-fields : (w : Verifying) (s : List ℕ) (at : ℕ) (f : Fault) → verifyFields (keyFor w) s at ≡ faulty f → Numbered (λ g. PointsAt (verifyForm (pinKeyRuleOf w)) s at (pointerOf g)) f
   unfolding every
   verify-fields w s at f e =
       (fault-number atFieldNumbers (verifyFields (keyFor w) s at) f e (wider sharedNumbers atFieldNumbers _ refl (verify-fields-give (keyFor w) s at)), verify-points-at w s at f e)
 
   -- by the code: the fields, or 68
-  ask-by : (code : Code) (s : List ℕ) (f : Fault) → askBy code settings s (settings .header + 2) ≡ refused f → AtNothing f ⊎ Numbered (InCommand code settings s) f
+  ask-by : (code : Code) (s : List ℕ) (f : Fault) → askBy code settings s (settings .header + 2) ≡ refused f → Nothing f ⊎ Numbered (λ g. InCommand code settings s (pointerOf g)) f
   unfolding askBy
-  ask-by Bk s f e = inr (ask-where (bkShape settings) (λ s at f. Numbered (PointsAt (AreBk (settings .restricted)) bkFieldTexts BkTook s at) f) bk-fields (asked-done (settings .restricted)) (bk-finish (settings .variable)) s _ f e)
-  ask-by Da s f e = inr (ask-where (verifyShape terminal settings) (λ s at f. Numbered (PointsAt (AreVerify terminalKeyRule) verifyFieldTexts VerifyTook s at) f) (verify-fields terminal) (verify-asked (keyFor terminal)) (verify-finish (settings .variable)) s _ f e)
-  ask-by Ea s f e = inr (ask-where (verifyShape zone settings) (λ s at f. Numbered (PointsAt (AreVerify zoneKeyRule) verifyFieldTexts VerifyTook s at) f) (verify-fields zone) (verify-asked (keyFor zone)) (verify-finish (settings .variable)) s _ f e)
-  ask-by Other s f e = inl (subst AtNothing (fault-of e) (refl, refl))
+  ask-by Bk s f e = inr (ask-where (bkShape settings) (λ s at f. Numbered (λ g. PointsAt (bkForm (settings .restricted)) s at (pointerOf g)) f) bk-fields (asked-done (settings .restricted)) (bk-finish (settings .variable)) s _ f e)
+  ask-by Da s f e = inr (ask-where (verifyShape terminal settings) (λ s at f. Numbered (λ g. PointsAt (verifyForm terminalKeyRule) s at (pointerOf g)) f) (verify-fields terminal) (verify-asked (keyFor terminal)) (verify-finish (settings .variable)) s _ f e)
+  ask-by Ea s f e = inr (ask-where (verifyShape zone settings) (λ s at f. Numbered (λ g. PointsAt (verifyForm zoneKeyRule) s at (pointerOf g)) f) (verify-fields zone) (verify-asked (keyFor zone)) (verify-finish (settings .variable)) s _ f e)
+  ask-by Other s f e = inl (subst Nothing (fault-of e) (refl, refl))
 
   module _ (g h : Bool) (s block enciphered : List ℕ) where
     abbrev Answers : Code → Fault → Type 0
-    Answers code f = AtNothing f ⊎ (Numbered (InCommand code settings s) f ⊎ ((f ≡ atTheEnd s) × SlicesShort block enciphered))
+    Answers code f = Nothing f ⊎ (Numbered (λ g. InCommand code settings s (pointerOf g)) f ⊎ ((f ≡ atTheEnd s) × SlicesNotEight block enciphered))
 
     answer-by : (code : Code) (f : Fault) → answerBy code settings g h s (settings .header + 2) block enciphered ≡ refused f → Answers code f
     unfolding answerBy
-    answer-by Bk f e = answer-where (bkShape settings) (λ s at f. Numbered (PointsAt (AreBk (settings .restricted)) bkFieldTexts BkTook s at) f) bk-fields (asked-done (settings .restricted)) (bk-finish (settings .variable)) g h s _ block enciphered f e
-    answer-by Da f e = answer-where (verifyShape terminal settings) (λ s at f. Numbered (PointsAt (AreVerify terminalKeyRule) verifyFieldTexts VerifyTook s at) f) (verify-fields terminal) (verify-asked (keyFor terminal)) (verify-finish (settings .variable)) g h s _ block enciphered f e
-    answer-by Ea f e = answer-where (verifyShape zone settings) (λ s at f. Numbered (PointsAt (AreVerify zoneKeyRule) verifyFieldTexts VerifyTook s at) f) (verify-fields zone) (verify-asked (keyFor zone)) (verify-finish (settings .variable)) g h s _ block enciphered f e
-    answer-by Other f e = inl (subst AtNothing (fault-of e) (refl, refl))
+    answer-by Bk f e = answer-where (bkShape settings) (λ s at f. Numbered (λ g. PointsAt (bkForm (settings .restricted)) s at (pointerOf g)) f) bk-fields (asked-done (settings .restricted)) (bk-finish (settings .variable)) g h s _ block enciphered f e
+    answer-by Da f e = answer-where (verifyShape terminal settings) (λ s at f. Numbered (λ g. PointsAt (verifyForm terminalKeyRule) s at (pointerOf g)) f) (verify-fields terminal) (verify-asked (keyFor terminal)) (verify-finish (settings .variable)) g h s _ block enciphered f e
+    answer-by Ea f e = answer-where (verifyShape zone settings) (λ s at f. Numbered (λ g. PointsAt (verifyForm zoneKeyRule) s at (pointerOf g)) f) (verify-fields zone) (verify-asked (keyFor zone)) (verify-finish (settings .variable)) g h s _ block enciphered f e
+    answer-by Other f e = inl (subst Nothing (fault-of e) (refl, refl))
 
-    short-by : (code : Code) (at : ℕ) (bytes : List ℕ) → askBy code settings s at ≡ done bytes → SlicesShort block enciphered → answerBy code settings g h s at block enciphered ≡ refused (atTheEnd s)
+    short-by : (code : Code) (at : ℕ) (bytes : List ℕ) → askBy code settings s at ≡ done bytes → SlicesNotEight block enciphered → answerBy code settings g h s at block enciphered ≡ refused (atTheEnd s)
     unfolding askBy answerBy
     short-by Bk at bytes e short = answer-short (bkShape settings) (λ s at f. Unit {0}) (λ s at f e. tt) (asked-done (settings .restricted)) (bk-finish (settings .variable)) g h s at block enciphered bytes e short
     short-by Da at bytes e short = answer-short (verifyShape terminal settings) (λ s at f. Unit {0}) (λ s at f e. tt) (verify-asked (keyFor terminal)) (verify-finish (settings .variable)) g h s at block enciphered bytes e short
@@ -238,20 +245,36 @@ opened-where {C} least room header s silent goes = by-tests (leb least room) (is
     by-tests true false hx hy = silent Frame902 (rw (hx, hy)) refl
     by-tests true true hx hy = goes hy (rw (hx, hy))
 
-pub ask-points : AskPoints
+asking-points : (settings : Settings) (s : List ℕ) (room : ℕ) (f : Fault) → asking settings s room ≡ refused f → Nothing f ⊎ AtFields settings s (f .refusal) (pointerOf f)
 unfolding asking
-ask-points settings s room f e =
+asking-points settings s room f e =
     opened-where 8 room (settings .header) s
-    (λ q o n. inl (subst AtNothing (fault-of (rw o at e)) (n, refl)))
+    (λ q o n. inl (subst Nothing (fault-of (rw o at e)) (n, refl)))
     (λ _ o. ask-by settings (codeIn settings s) s f (rw o at e))
 
-pub answer-points : AnswerPoints
+replying-points : (settings : Settings) (g h : Bool) (s block enciphered : List ℕ) (room : ℕ) (f : Fault) → replying settings g h s block enciphered room ≡ refused f
+    → Nothing f ⊎ (AtFields settings s (f .refusal) (pointerOf f) ⊎ ((f ≡ atTheEnd s) × SlicesNotEight block enciphered))
 unfolding replying
-answer-points settings g h s block enciphered room f e =
+replying-points settings g h s block enciphered room f e =
     opened-where 65 room (settings .header) s
-    (λ q o n. inl (subst AtNothing (fault-of (rw o at e)) (n, refl)))
+    (λ q o n. inl (subst Nothing (fault-of (rw o at e)) (n, refl)))
     (λ _ o. then-fault (answerBy (codeIn settings s) settings g h s (settings .header + 2) block enciphered) _ f (rw o at e) (answer-by settings g h s block enciphered (codeIn settings s) f)
     (λ _ _ d. absurd (let z : _≡_ {A = ℕ} 0 1 = cc in omega arith)))
+
+-- what is shown of a fault is its pointer
+pub ask-points : AskPoints
+ask-points settings s room f e = subst (λ (at : Pointer). AtNothing (f .refusal) at ⊎ AtFields settings s (f .refusal) at) (sym (ap shown e)) (asking-points settings s room f e)
+
+pub answer-points : AnswerPoints
+answer-points settings g h s block enciphered room f e =
+    subst (λ (at : Pointer). AtNothing (f .refusal) at ⊎ (AtFields settings s (f .refusal) at ⊎ (AtTheEnd s (f .refusal) at × SlicesNotEight block enciphered))) (sym (ap shown e))
+    (by-kind (replying-points settings g h s block enciphered room f e))
+  where
+    by-kind : Nothing f ⊎ (AtFields settings s (f .refusal) (pointerOf f) ⊎ ((f ≡ atTheEnd s) × SlicesNotEight block enciphered))
+        → AtNothing (f .refusal) (pointerOf f) ⊎ (AtFields settings s (f .refusal) (pointerOf f) ⊎ (AtTheEnd s (f .refusal) (pointerOf f) × SlicesNotEight block enciphered))
+    by-kind (inl a) = inl a
+    by-kind (inr (inl b)) = inr (inl b)
+    by-kind (inr (inr (same, short))) = inr (inr ((ap (λ (g : Fault). g .refusal) same, ap pointerOf same), short))
 
 -- the same frame for both calls
 same-frame : (settings : Settings) (s : List ℕ) (room room′ : ℕ) → 8 ≤ room → 65 ≤ room′ → opened 8 room (settings .header) s ≡ opened 65 room′ (settings .header) s
@@ -266,13 +289,19 @@ both-point-alike settings g h s block enciphered room room′ f k k′ e = by-fr
     by-frame (done code) o d = rw (← o, refused-alike settings g h s block enciphered (codeOf (drop code s)) (code + 2) f d)
     by-frame (refused q) o d = rw (← o) (ap refused (fault-of d))
 
-pub slices-at-the-end : SlicesAtTheEnd
+slices-refused : (settings : Settings) (g h : Bool) (s block enciphered : List ℕ) (room room′ : ℕ) (bytes : List ℕ) → asking settings s room ≡ done bytes → 65 ≤ room′ → SlicesNotEight block enciphered
+    → replying settings g h s block enciphered room′ ≡ refused (atTheEnd s)
 unfolding asking replying
-slices-at-the-end settings g h s block enciphered room room′ bytes e k short =
+slices-refused settings g h s block enciphered room room′ bytes e k short =
     let o = then-done (unpointed (opened 8 room (settings .header) s)) _ bytes e in
     let code = pointing-done 0 0 (opened 8 room (settings .header) s) (o .0) (o .1) in
     let roomy = then-done (unless Room901 (leb 8 room) room) _ (o .0) code in
     rw (le-leb 65 room′ k, roomy .2, short-by settings g h s block enciphered (codeOf (drop (o .0) s)) (o .0 + 2) bytes (o .2) short)
+
+pub slices-at-the-end : SlicesAtTheEnd
+slices-at-the-end settings g h s block enciphered room room′ bytes e k short =
+    let r = slices-refused settings g h s block enciphered room room′ bytes e k short in
+    (ap numberIn r, ap shown r)
 
 shown-inside : {A : Type 0} (s : List ℕ) (o : Ruling A) → RulesShort s o → shown o .place ≤ length s
 shown-inside s (done a) r = omega arith
@@ -283,3 +312,36 @@ place-inside = (
   λ settings s room. shown-inside s (asking settings s room) (asking-rules s settings room),
   λ settings g h s block enciphered room. shown-inside s (replying settings g h s block enciphered room) (replying-rules s settings g h block enciphered room),
 )
+
+-- ---- numbers that show nothing
+
+abbrev quietNumbers : List ℕ
+quietNumbers = 0 ∷ unpointedNumbers
+
+-- a field's number is none of them
+pointed-other : (n : ℕ) → listed n quietNumbers ≡ true → listed n atFieldNumbers ≡ true → ⊥
+unfolding every
+pointed-other n quiet pointed = let z = listed-passes (λ m. not (listed m quietNumbers)) n atFieldNumbers refl pointed in let y : _≡_ {A = Bool} true false = sym z ∙ ap not quiet in let x : _≡_ {A = ℕ} 0 1 = cc in omega arith
+
+pub numbers-show-nothing : NumbersShowNothing
+numbers-show-nothing = (
+  λ settings s room. by-ask settings s room (asking settings s room) refl,
+  λ settings g h s block enciphered room. by-answer settings g h s block enciphered room (replying settings g h s block enciphered room) refl,
+)
+  where
+    by-ask : (settings : Settings) (s : List ℕ) (room : ℕ) (o : Ruling (List ℕ)) → asking settings s room ≡ o → NothingShown o
+    by-ask settings s room (done w) e quiet = refl
+    by-ask settings s room (refused f) e quiet = by-kind (asking-points settings s room f e)
+      where
+        by-kind : Nothing f ⊎ AtFields settings s (f .refusal) (pointerOf f) → pointerOf f ≡ nowhere
+        by-kind (inl a) = a .1
+        by-kind (inr b) = absurd (pointed-other (numberOf (f .refusal)) quiet (b .0))
+
+    by-answer : (settings : Settings) (g h : Bool) (s block enciphered : List ℕ) (room : ℕ) (o : Ruling (List ℕ)) → replying settings g h s block enciphered room ≡ o → NothingShown o
+    by-answer settings g h s block enciphered room (done w) e quiet = refl
+    by-answer settings g h s block enciphered room (refused f) e quiet = by-kind (replying-points settings g h s block enciphered room f e)
+      where
+        by-kind : Nothing f ⊎ (AtFields settings s (f .refusal) (pointerOf f) ⊎ ((f ≡ atTheEnd s) × SlicesNotEight block enciphered)) → pointerOf f ≡ nowhere
+        by-kind (inl a) = a .1
+        by-kind (inr (inl b)) = absurd (pointed-other (numberOf (f .refusal)) quiet (b .0))
+        by-kind (inr (inr (same, short))) = absurd (pointed-other (numberOf (f .refusal)) quiet (ap (λ (g : Fault). listed (numberOf (g .refusal)) atFieldNumbers) same))

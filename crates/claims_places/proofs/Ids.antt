@@ -37,7 +37,7 @@ use Rattle.claims_exactly.specs.VerifyText.{VerifyParts, verifyText, verifyIds,
 use Rattle.claims_exactly.proofs.VerifyFields.{key-ruled}
 use Rattle.claims_places.specs.FieldTexts.{keyFields, sealedFields, inputFields, bkFieldTexts, verifyFieldTexts}
 use Rattle.claims_places.specs.Begins.{AreBk, AreVerify}
-use Rattle.claims_places.specs.Ids.{lastPresent, bkLast, verifyLast, at, IdsPointAtTheLast}
+use Rattle.claims_places.specs.Ids.{lastPresent, bkLast, verifyLast, fieldFault, IdsPointAtTheLast}
 use Rattle.claims_places.proofs.Stages.{ArePair}
 use Rattle.claims_places.proofs.Between.{between-append, between-whole}
 use Rattle.claims_places.proofs.FieldTexts.{key-fields, sealed-fields, input-fields}
@@ -107,11 +107,11 @@ module _ (start k m from place : ℕ) (texts : List (List ℕ)) (first second : 
 
   -- the fault that the end gives is the one at the last id's field
   last-fault-is : (ks : Keys) (v : Optional ℕ) → ks .field ≡ m → ks .place ≡ place → from ≡ start + length (together (take 10 texts)) → place ≡ start + length (together (take (m - 1) texts))
-      → (AllSame (keyIds first ++ (keyIds second ++ ownIds v)) → ⊥) → lastId ks (ids .value v) 11 from ≡ at start texts (last v)
+      → (AllSame (keyIds first ++ (keyIds second ++ ownIds v)) → ⊥) → lastId ks (ids .value v) 11 from ≡ fieldFault start texts (last v)
   last-fault-is ks (present n) f p own second-at differ = rw (last-own k m (keyIds first) (keyIds second) n) (ap (λ (i : ℕ). record { refusal = Field15; field = 11; place = i }) own)
   last-fault-is ks absent f p own second-at differ = by-second second refl
     where
-      by-second : (x : Key) → second ≡ x → lastId ks (ids .value absent) 11 from ≡ at start texts (last absent)
+      by-second : (x : Key) → second ≡ x → lastId ks (ids .value absent) 11 from ≡ fieldFault start texts (last absent)
       by-second (block b) e = rw (e, last-second k m (keyIds first) (b .id)) (ap₂ (λ (i j : ℕ). record { refusal = Field15; field = i; place = j }) f (p ∙ second-at))
       by-second (bare cs) e = absurd (differ (rw e (one-agrees first)))
       by-second (double cs) e = absurd (differ (rw e (one-agrees first)))
@@ -129,7 +129,7 @@ weak-fine (present w) v t g = g
 ids-read : (a b : Key) (v : Optional ℕ) → AllSame (idsRead (lmkOf a) ++ (idsRead (lmkOf b) ++ ownIds v)) → AllSame (keyIds a ++ (keyIds b ++ ownIds v))
 ids-read a b v g = rw (← key-ids a, ← key-ids b) g
 
-bk-ids : (limited : Bool) (s : List ℕ) (start : ℕ) (p : BkParts) → AreBk limited p → drop start s ≡ bkText p → (AllSame (bkIds p) → ⊥) → bkFields limited s start ≡ faulty (at start (bkFieldTexts p) (bkLast p))
+bk-ids : (limited : Bool) (s : List ℕ) (start : ℕ) (p : BkParts) → AreBk limited p → drop start s ≡ bkText p → (AllSame (bkIds p) → ⊥) → bkFields limited s start ≡ faulty (fieldFault start (bkFieldTexts p) (bkLast p))
 unfolding bkFields
 bk-ids limited s start p g w differ =
     let weakly = optionalText markOfWeakList weakText (p .weak) in
@@ -158,7 +158,7 @@ bk-ids limited s start p g w differ =
 -- ---- DA and EA
 
 verify-ids : (v : Verifying) (s : List ℕ) (start : ℕ) (p : VerifyParts) → AreVerify (pinKeyRuleOf v) p → drop start s ≡ verifyText p → (AllSame (verifyIds p) → ⊥)
-    → verifyFields (keyFor v) s start ≡ faulty (at start (verifyFieldTexts p) (verifyLast p))
+    → verifyFields (keyFor v) s start ≡ faulty (fieldFault start (verifyFieldTexts p) (verifyLast p))
 unfolding verifyFields
 verify-ids v s start p g w differ =
     let shown = presentedText (p .offset) in

@@ -31,13 +31,13 @@ abbrev pub verifyLast : VerifyParts → ℕ
 verifyLast p = lastPresent 0 ((1, keyIds (p .keys .first)) ∷ (2, keyIds (p .keys .second)) ∷ (11, ownIds (p .end .id)) ∷ [])
 
 -- 15 at a field of a command that begins at a start: behind the texts of the fields before it
-abbrev pub at : ℕ → List (List ℕ) → ℕ → Fault
-at start texts field = record { refusal = Field15; field = field; place = start + length (together (take (field - 1) texts)) }
+abbrev pub fieldFault : ℕ → List (List ℕ) → ℕ → Fault
+fieldFault start texts field = record { refusal = Field15; field = field; place = start + length (together (take (field - 1) texts)) }
 
 -- a command whose fields are as they must be, with nothing left over and ids that do not all agree
 abbrev pub IdsPointAtTheLast : Type 0
 IdsPointAtTheLast =
     ((restricted : Bool) (s : List ℕ) (start : ℕ) (p : BkParts) → AreBk restricted p → drop start s ≡ bkText p → (AllSame (bkIds p) → ⊥)
-    → bkFields restricted s start ≡ faulty (at start (bkFieldTexts p) (bkLast p)))
+    → bkFields restricted s start ≡ faulty (fieldFault start (bkFieldTexts p) (bkLast p)))
     × ((w : Verifying) (s : List ℕ) (start : ℕ) (p : VerifyParts) → AreVerify (pinKeyRuleOf w) p → drop start s ≡ verifyText p → (AllSame (verifyIds p) → ⊥)
-    → verifyFields (keyFor w) s start ≡ faulty (at start (verifyFieldTexts p) (verifyLast p)))
+    → verifyFields (keyFor w) s start ≡ faulty (fieldFault start (verifyFieldTexts p) (verifyLast p)))

@@ -41,7 +41,7 @@ pub struct FaceReply {
 }
 
 // The reply of a command's call. A command has at most 4,096 bytes, and far fewer fields.
-pub fn pointing(reply: Reply, pointer: Pointer) -> FaceReply
+pub fn wide(reply: Reply, pointer: Pointer) -> FaceReply
     requires { ⌜ (pointer .place ≤ 4096) × (pointer .field ≤ 4096) ⌝ }
     ensures { λ r. ⌜ (replyIn r ≡ reply) × (pointerIn r ≡ pointer) ⌝ }
 {
@@ -57,5 +57,5 @@ pub fn pointing(reply: Reply, pointer: Pointer) -> FaceReply
 pub fn plain(reply: Reply) -> FaceReply
     ensures { λ r. ⌜ (replyIn r ≡ reply) × (pointerIn r ≡ nowhere) ⌝ }
 {
-    pointing(reply, Pointer::NOWHERE)
+    wide(reply, Pointer::NOWHERE)
 }

@@ -119,7 +119,7 @@ heard (refused f) = refused (f .refusal)
 abbrev pub outcome : {A : Type 0} → Stage A → Outcome A
 outcome stage = heard (ruled stage)
 
--- what the server is shown of it: "the byte position in the command where the field that failed begins, and which field number"
+-- a fault's "byte position in the command where the field that failed begins, and which field number"
 abbrev pub pointerOf : Fault → Pointer
 pointerOf f = record { place = f .place; field = f .field }
 
@@ -127,6 +127,7 @@ pointerOf f = record { place = f .place; field = f .field }
 abbrev pub nowhere : Pointer
 nowhere = record { place = 0; field = 0 }
 
+-- what the server is shown of what a command comes to
 abbrev pub shown : {A : Type 0} → Ruling A → Pointer
 shown (done a) = nowhere
 shown (refused f) = pointerOf f

@@ -36,7 +36,7 @@ pub extern "C" fn qg_ask(settings: FaceSettings, command: &[u8], out: &mut [u8])
     ensures { λ r. ⌜ Does (quietly (asked (settingsOf settings) (now (command .entry)) (length (now (out .entry))))) (now (out .entry)) (replyIn r) (now (out .exit)) × (pointerIn r ≡ shown (asking (settingsOf settings) (now (command .entry)) (length (now (out .entry))))) ⌝ }
 {
     let told = commands::ask(face::inner(settings), command, out);
-    face::pointing(told.reply, told.pointer)
+    face::wide(told.reply, told.pointer)
 }
 
 #[no_mangle]
@@ -60,7 +60,7 @@ pub extern "C" fn qg_answer(
         enciphered,
         out,
     );
-    face::pointing(told.reply, told.pointer)
+    face::wide(told.reply, told.pointer)
 }
 
 #[no_mangle]

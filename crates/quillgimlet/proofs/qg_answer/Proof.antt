@@ -20,8 +20,8 @@ inner-requires c κs = search needs
 answer-requires : tie.Need-answer-requires
 answer-requires c κs = search needs
 
-pointing-requires : tie.Need-pointing-requires
-pointing-requires c κs =
+wide-requires : tie.Need-wide-requires
+wide-requires c κs =
     let a = c .before .before .before .before .before .before .before .before .before .args in
     let settings = c .before .before .before .before .inner .result in
     let room = length (a .out .now) in
@@ -37,8 +37,8 @@ returns c =
     let a = c .before .before .before .before .before .before .before .before .before .before .args in
     let e = c .before .before .before .before .before .inner .ensures in
     let told = c .before .before .before .answer .ensures in
-    faced (c .pointing .result) (ap (λ (s : Settings). answered s (yes? (a .pinparity)) (yes? (a .pvkparity)) (a .command .now) (a .block .now) (a .enciphered .now) (length (a .out .now))) e)
-    (told .1 ∙ ap (λ (s : Settings). shown (replying s (yes? (a .pinparity)) (yes? (a .pvkparity)) (a .command .now) (a .block .now) (a .enciphered .now) (length (a .out .now)))) e) (told .0) (c .pointing .ensures)
+    faced (c .wide .result) (ap (λ (s : Settings). answered s (yes? (a .pinparity)) (yes? (a .pvkparity)) (a .command .now) (a .block .now) (a .enciphered .now) (length (a .out .now))) e)
+    (told .1 ∙ ap (λ (s : Settings). shown (replying s (yes? (a .pinparity)) (yes? (a .pvkparity)) (a .command .now) (a .block .now) (a .enciphered .now) (length (a .out .now)))) e) (told .0) (c .wide .ensures)
 
 pub qg-answer-spec : {M : Type 1} → statement M
-qg-answer-spec = tie.close (tie.spec inner-requires answer-requires pointing-requires same-length returns)
+qg-answer-spec = tie.close (tie.spec inner-requires answer-requires wide-requires same-length returns)

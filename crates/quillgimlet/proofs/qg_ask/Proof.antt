@@ -20,8 +20,8 @@ inner-requires c κs = search needs
 ask-requires : tie.Need-ask-requires
 ask-requires c κs = search needs
 
-pointing-requires : tie.Need-pointing-requires
-pointing-requires c κs =
+wide-requires : tie.Need-wide-requires
+wide-requires c κs =
     let a = c .before .before .before .before .before .before .before .args in
     let o = asking (c .before .before .before .before .inner .result) (a .command .now) (length (a .out .now)) in
     subst (λ (p : Pointer). (p .place ≤ 4096) × (p .field ≤ 4096)) (sym (c .before .before .ask .ensures .1))
@@ -35,8 +35,8 @@ returns c =
     let a = c .before .before .before .before .before .before .before .before .args in
     let e = c .before .before .before .before .before .inner .ensures in
     let told = c .before .before .before .ask .ensures in
-    faced (c .pointing .result) (ap (λ (s : Settings). quietly (asked s (a .command .now) (length (a .out .now)))) e)
-    (told .1 ∙ ap (λ (s : Settings). shown (asking s (a .command .now) (length (a .out .now)))) e) (told .0) (c .pointing .ensures)
+    faced (c .wide .result) (ap (λ (s : Settings). quietly (asked s (a .command .now) (length (a .out .now)))) e)
+    (told .1 ∙ ap (λ (s : Settings). shown (asking s (a .command .now) (length (a .out .now)))) e) (told .0) (c .wide .ensures)
 
 pub qg-ask-spec : {M : Type 1} → statement M
-qg-ask-spec = tie.close (tie.spec inner-requires ask-requires pointing-requires same-length returns)
+qg-ask-spec = tie.close (tie.spec inner-requires ask-requires wide-requires same-length returns)
