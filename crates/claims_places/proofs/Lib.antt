@@ -4,5 +4,7 @@ pub mod Stages
 pub mod Points
 pub mod Begins
 pub mod VerifyBegins
+pub mod Ends
 pub mod Ids
+pub mod Leftovers
 pub mod Claims
