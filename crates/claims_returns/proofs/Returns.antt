@@ -1,26 +1,33 @@
 -- The contract says of a return what the law over the definitions asks of it.
 -- Assumes nothing.
 use Prim.Native.Nat.{ℕ}
-use mathlib.Core.Path.{_≡_, refl, sym, _∙_, subst}
-use mathlib.Core.List.{List}
-use mathlib.Core.Bool.{Bool, true, false}
+use native.Mathlib.Omega.{arith}
+use mathlib.Core.Path.{_≡_, refl, sym, ap, _∙_, subst}
+use mathlib.Core.Logic.{_⊎_, inl, inr, _↔_}
+use mathlib.Core.List.{List, [], _∷_}
+use mathlib.Core.Bool.{Bool, true, false, not}
 use lib.ListN.{length, take}
-use Rattle.numbers.specs.Numbers.{done, refused, andThen}
+use Rattle.nibbles.specs.Nibbles.{every}
+use Rattle.numbers.specs.Numbers.{done, refused, andThen, numberOf}
 use Rattle.numbers.specs.Promise.{Does}
 use Rattle.numbers.specs.declared.Reply.{Reply}
 use Rattle.settings.specs.declared.Settings.{Settings}
 use Rattle.frame.specs.declared.Code.the-variants.{Bk}
-use Rattle.fields.specs.Fields.{Ruling, pointing, unpointed}
+use Rattle.fields.specs.Fields.{Ruling, pointing, unpointed, pointerOf, nowhere, shown}
+use Rattle.fields.specs.declared.Fault.{Fault}
 use Rattle.keybox.specs.KeyBox.{slices, parities, boxed}
-use Rattle.commands.specs.Commands.{answered}
-use Rattle.face.specs.Face.{replyIn}
+use Rattle.commands.specs.Commands.{answered, replying}
+use Rattle.face.specs.Face.{replyIn, pointerIn}
 use Rattle.claims_blocks.specs.Promises.{listed}
 use Rattle.claims_commands.specs.Runs.{codeIn, Reads}
 use Rattle.claims_commands.specs.Claims.{Tells, readNumbers}
+use Rattle.claims_commands.proofs.Fields.{listed-passes}
 use Rattle.claims_commands.proofs.PinsRead.{reads-exactly, returns-tell-differences}
 use Rattle.claims_verification.specs.Calls.{answer}
 use Rattle.claims_verification.proofs.Told.{returns-tell-verdicts}
-use Rattle.claims_returns.specs.Returns.{Return, IsBk, Answers, AllowedReturnsTellDifferences, callOf, AllowedReturnsTellVerdicts, settings, pinKeyGood, pvkGood, command, block, enciphered, before, after}
+use Rattle.claims_places.specs.Claims.{numberIn, AtNothing, AtFields, atTheEnd, SlicesShort}
+use Rattle.claims_places.proofs.Claims.{one-fault, answer-points}
+use Rattle.claims_returns.specs.Returns.{Return, IsBk, Answers, AnswersShowNothing, AllowedReturnsTellDifferences, callOf, AllowedReturnsTellVerdicts, settings, pinKeyGood, pvkGood, command, block, enciphered, before, after}
 
 -- two returns, each under settings and parities of its own
 abbrev Told : Settings → Bool → Bool → Settings → Bool → Bool → Type 0
@@ -57,12 +64,63 @@ good a coded e =
     (subst (λ (n : ℕ). listed n readNumbers ≡ true) (a .allowed .0 .number) e) in
     boxed-good (length (command a)) (pinKeyGood a) (pvkGood a) (block a) (enciphered a) (r .reaches .rows) (r .reaches .boxed)
 
+-- ---- what the server is shown
+
+abbrev these : List ℕ
+these = 0 ∷ 1 ∷ 81 ∷ 86 ∷ []
+
+abbrev pointed : List ℕ
+pointed = 3 ∷ 15 ∷ 23 ∷ 25 ∷ 26 ∷ 29 ∷ 69 ∷ []
+
+-- a number at which a field or the command's end is shown is none of these
+not-shown : (n : ℕ) → listed n pointed ≡ true → listed n these ≡ true → ⊥
+unfolding every
+not-shown n p a = let z = listed-passes (λ m. not (listed m these)) n pointed refl p in absurd (none (sym z ∙ ap not a))
+  where
+    none : true ≡ false → ⊥
+    none e = let y : _≡_ {A = ℕ} 0 1 = cc in omega arith
+
+shows-nothing : (x : Settings) (g h : Bool) (s block enciphered : List ℕ) (room : ℕ) → listed (numberIn (replying x g h s block enciphered room)) these ≡ true
+    → shown (replying x g h s block enciphered room) ≡ nowhere
+shows-nothing x g h s block enciphered room = by-ruling (replying x g h s block enciphered room) refl
+  where
+    by-fault : (f : Fault) → listed (numberOf (f .refusal)) these ≡ true → AtNothing f ⊎ (AtFields x s f ⊎ ((f ≡ atTheEnd s) × SlicesShort block enciphered)) → pointerOf f ≡ nowhere
+    by-fault f n (inl nothing) = nothing .1
+    by-fault f n (inr (inl fields)) = absurd (not-shown (numberOf (f .refusal)) (fields .0) n)
+    by-fault f n (inr (inr slices)) = absurd (not-shown 15 refl (subst (λ (y : Fault). listed (numberOf (y .refusal)) these ≡ true) (slices .0) n))
+
+    by-ruling : (o : Ruling (List ℕ)) → replying x g h s block enciphered room ≡ o → listed (numberIn o) these ≡ true → shown o ≡ nowhere
+    by-ruling (done bytes) e n = refl
+    by-ruling (refused f) e n = by-fault f n (answer-points x g h s block enciphered room f e)
+
+pub answers-show-nothing : AnswersShowNothing
+answers-show-nothing a n =
+    let same = a .allowed .0 .number ∙ one-fault .1 (settings a) (pinKeyGood a) (pvkGood a) (command a) (block a) (enciphered a) (length (before a)) in
+    a .allowed .1 ∙ shows-nothing (settings a) (pinKeyGood a) (pvkGood a) (command a) (block a) (enciphered a) (length (before a)) (subst (λ (k : ℕ). listed k these ≡ true) same n)
+
+-- so any two returns with some of these numbers show the same
+shown-alike : (numbers : List ℕ) → every (λ m. listed m these) numbers ≡ true → (a b : Return) → listed (a .reply .number) numbers ≡ true → listed (b .reply .number) numbers ≡ true
+    → pointerIn (a .reply) ≡ pointerIn (b .reply)
+shown-alike numbers some a b e e′ =
+    let among : (n : ℕ) → listed n numbers ≡ true → listed n these ≡ true = λ n. listed-passes (λ m. listed m these) n numbers some in
+    answers-show-nothing a (among (a .reply .number) e) ∙ sym (answers-show-nothing b (among (b .reply .number) e′))
+
+-- what two members tell, all three tell
+by-three : {A B C D : Type 0} → C → (A × B) ↔ D → (A × B × C) ↔ D
+by-three c told = (λ (a, b, _). told .0 (a, b), λ d. (told .1 d .0, told .1 d .1, c))
+
+-- ---- the claims
+
 pub allowed-returns-tell-differences : AllowedReturnsTellDifferences
+unfolding every
 allowed-returns-tell-differences a b p coded coded′ e e′ =
-    told (settings a) (settings b) (pinKeyGood a) (pinKeyGood b) (pvkGood a) (pvkGood b) p (good a coded e .0 ∙ sym (good b coded′ e′ .0)) (good a coded e .1 ∙ sym (good b coded′ e′ .1))
-    (command a) (command b) (block a) (block b) (enciphered a) (enciphered b) (before a) (before b) (after a) (after b) (replyIn (a .reply)) (replyIn (b .reply)) coded coded′ (a .allowed .0) (b .allowed .0) e e′
+    let (r, r′, tells) = told (settings a) (settings b) (pinKeyGood a) (pinKeyGood b) (pvkGood a) (pvkGood b) p (good a coded e .0 ∙ sym (good b coded′ e′ .0)) (good a coded e .1 ∙ sym (good b coded′ e′ .1))
+    (command a) (command b) (block a) (block b) (enciphered a) (enciphered b) (before a) (before b) (after a) (after b) (replyIn (a .reply)) (replyIn (b .reply)) coded coded′ (a .allowed .0) (b .allowed .0) e e′ in
+    (r, r′, λ m alike long covered. by-three (shown-alike readNumbers refl a b e e′) (tells m alike long covered))
 
 pub allowed-returns-tell-verdicts : AllowedReturnsTellVerdicts
+unfolding every
 allowed-returns-tell-verdicts w a b p coded coded′ e e′ =
     let there = subst (λ (x : Settings). Does (answer x (callOf b)) (before b) (replyIn (b .reply)) (after b)) (sym p) (b .allowed .0) in
-    returns-tell-verdicts w (settings a) (callOf a) (callOf b) (before a) (before b) (after a) (after b) (replyIn (a .reply)) (replyIn (b .reply)) coded coded′ (a .allowed .0) there e e′
+    let (r, r′, tells) = returns-tell-verdicts w (settings a) (callOf a) (callOf b) (before a) (before b) (after a) (after b) (replyIn (a .reply)) (replyIn (b .reply)) coded coded′ (a .allowed .0) there e e′ in
+    (r, r′, λ alike. by-three (shown-alike (0 ∷ 1 ∷ []) refl a b e e′) (tells alike))

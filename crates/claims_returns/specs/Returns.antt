@@ -11,7 +11,8 @@ use denote.Triple.Clauses.{Lasts, atExit}
 use lib.ListN.{length, take}
 use Rattle.settings.specs.declared.Settings.{Settings}
 use Rattle.frame.specs.declared.Code.the-variants.{Bk}
-use Rattle.face.specs.Face.{settingsOf, yes?}
+use Rattle.fields.specs.Fields.{nowhere}
+use Rattle.face.specs.Face.{settingsOf, yes?, pointerIn}
 use Rattle.quillgimlet.proofs as Face
 use Rattle.claims_blocks.specs.Promises.{listed}
 use Rattle.claims_commands.specs.Runs.{codeIn, Reads, Verifying, codeFor}
@@ -68,9 +69,14 @@ Answers a = listed (a .reply .number) readNumbers ≡ true
 abbrev pub ReadsPin : Return → Type 0
 ReadsPin a = Reads (settings a) (pinKeyGood a) (pvkGood a) (length (before a)) (command a) (block a) (enciphered a)
 
--- the numbers agree, and so do the bytes that are counted
+-- with 00, 01, 81 or 86 a return shows the server no place and no field. So these two members of the reply, which §4 of document 02
+-- adds, agree in any two such returns: they tell no more of a PIN than number and bytes do
+abbrev pub AnswersShowNothing : Type 0
+AnswersShowNothing = (a : Return) → listed (a .reply .number) (0 ∷ 1 ∷ 81 ∷ 86 ∷ []) ≡ true → pointerIn (a .reply) ≡ nowhere
+
+-- the numbers agree, and so do the bytes that are counted, and what the server is shown beside them
 abbrev pub Agree : Return → Return → Type 0
-Agree a b = (a .reply .number ≡ b .reply .number) × (take (a .reply .written) (after a) ≡ take (b .reply .written) (after b))
+Agree a b = (a .reply .number ≡ b .reply .number) × (take (a .reply .written) (after a) ≡ take (b .reply .written) (after b)) × (pointerIn (a .reply) ≡ pointerIn (b .reply))
 
 -- any two returns of the call to BKs with 00, 81 or 86, under the same settings, have each read their PIN, and agree exactly when the
 -- same is told of their PINs. With these numbers the parities are good
