@@ -1,22 +1,20 @@
 -- The contract says of a return what the law over the definitions asks of it.
 -- Assumes nothing.
 use Prim.Native.Nat.{ℕ}
-use native.Mathlib.Omega.{arith}
-use mathlib.Core.Path.{_≡_, refl, sym, ap, _∙_, subst}
-use mathlib.Core.Logic.{_⊎_, inl, inr, _↔_}
+use mathlib.Core.Path.{_≡_, refl, sym, _∙_, subst}
+use mathlib.Core.Logic.{_↔_}
 use mathlib.Core.List.{List, [], _∷_}
-use mathlib.Core.Bool.{Bool, true, false, not}
+use mathlib.Core.Bool.{Bool, true, false}
 use lib.ListN.{length, take}
 use Rattle.nibbles.specs.Nibbles.{every}
-use Rattle.numbers.specs.Numbers.{done, refused, andThen, numberOf}
+use Rattle.numbers.specs.Numbers.{done, refused, andThen}
 use Rattle.numbers.specs.Promise.{Does}
 use Rattle.numbers.specs.declared.Reply.{Reply}
 use Rattle.settings.specs.declared.Settings.{Settings}
 use Rattle.frame.specs.declared.Code.the-variants.{Bk}
-use Rattle.fields.specs.Fields.{Ruling, pointing, unpointed, pointerOf, nowhere, shown}
-use Rattle.fields.specs.declared.Fault.{Fault}
+use Rattle.fields.specs.Fields.{Ruling, pointing, unpointed, shown}
 use Rattle.keybox.specs.KeyBox.{slices, parities, boxed}
-use Rattle.commands.specs.Commands.{answered, replying}
+use Rattle.commands.specs.Commands.{answered}
 use Rattle.face.specs.Face.{replyIn, pointerIn}
 use Rattle.claims_blocks.specs.Promises.{listed}
 use Rattle.claims_commands.specs.Runs.{codeIn, Reads}
@@ -25,8 +23,7 @@ use Rattle.claims_commands.proofs.Fields.{listed-passes}
 use Rattle.claims_commands.proofs.PinsRead.{reads-exactly, returns-tell-differences}
 use Rattle.claims_verification.specs.Calls.{answer}
 use Rattle.claims_verification.proofs.Told.{returns-tell-verdicts}
-use Rattle.claims_places.specs.Claims.{numberIn, AtNothing, AtFields, atTheEnd, SlicesShort}
-use Rattle.claims_places.proofs.Claims.{one-fault, answer-points}
+use Rattle.claims_places.proofs.Claims.{one-fault, numbers-show-nothing}
 use Rattle.claims_returns.specs.Returns.{Return, IsBk, Answers, AnswersShowNothing, AllowedReturnsTellDifferences, callOf, AllowedReturnsTellVerdicts, settings, pinKeyGood, pvkGood, command, block, enciphered, before, after}
 
 -- two returns, each under settings and parities of its own
@@ -69,34 +66,18 @@ good a coded e =
 abbrev these : List ℕ
 these = 0 ∷ 1 ∷ 81 ∷ 86 ∷ []
 
-abbrev pointed : List ℕ
-pointed = 3 ∷ 15 ∷ 23 ∷ 25 ∷ 26 ∷ 29 ∷ 69 ∷ []
+-- they are among the numbers with which nothing is shown
+abbrev quietNumbers : List ℕ
+quietNumbers = 0 ∷ 1 ∷ 10 ∷ 11 ∷ 20 ∷ 24 ∷ 68 ∷ 81 ∷ 86 ∷ 901 ∷ 902 ∷ []
 
--- a number at which a field or the command's end is shown is none of these
-not-shown : (n : ℕ) → listed n pointed ≡ true → listed n these ≡ true → ⊥
+quiet : (n : ℕ) → listed n these ≡ true → listed n quietNumbers ≡ true
 unfolding every
-not-shown n p a = let z = listed-passes (λ m. not (listed m these)) n pointed refl p in absurd (none (sym z ∙ ap not a))
-  where
-    none : true ≡ false → ⊥
-    none e = let y : _≡_ {A = ℕ} 0 1 = cc in omega arith
-
-shows-nothing : (x : Settings) (g h : Bool) (s block enciphered : List ℕ) (room : ℕ) → listed (numberIn (replying x g h s block enciphered room)) these ≡ true
-    → shown (replying x g h s block enciphered room) ≡ nowhere
-shows-nothing x g h s block enciphered room = by-ruling (replying x g h s block enciphered room) refl
-  where
-    by-fault : (f : Fault) → listed (numberOf (f .refusal)) these ≡ true → AtNothing f ⊎ (AtFields x s f ⊎ ((f ≡ atTheEnd s) × SlicesShort block enciphered)) → pointerOf f ≡ nowhere
-    by-fault f n (inl nothing) = nothing .1
-    by-fault f n (inr (inl fields)) = absurd (not-shown (numberOf (f .refusal)) (fields .0) n)
-    by-fault f n (inr (inr slices)) = absurd (not-shown 15 refl (subst (λ (y : Fault). listed (numberOf (y .refusal)) these ≡ true) (slices .0) n))
-
-    by-ruling : (o : Ruling (List ℕ)) → replying x g h s block enciphered room ≡ o → listed (numberIn o) these ≡ true → shown o ≡ nowhere
-    by-ruling (done bytes) e n = refl
-    by-ruling (refused f) e n = by-fault f n (answer-points x g h s block enciphered room f e)
+quiet n e = listed-passes (λ m. listed m quietNumbers) n these refl e
 
 pub answers-show-nothing : AnswersShowNothing
 answers-show-nothing a n =
     let same = a .allowed .0 .number ∙ one-fault .1 (settings a) (pinKeyGood a) (pvkGood a) (command a) (block a) (enciphered a) (length (before a)) in
-    a .allowed .1 ∙ shows-nothing (settings a) (pinKeyGood a) (pvkGood a) (command a) (block a) (enciphered a) (length (before a)) (subst (λ (k : ℕ). listed k these ≡ true) same n)
+    a .allowed .1 ∙ numbers-show-nothing .1 (settings a) (pinKeyGood a) (pvkGood a) (command a) (block a) (enciphered a) (length (before a)) (subst (λ (k : ℕ). listed k quietNumbers ≡ true) same (quiet (a .reply .number) n))
 
 -- so any two returns with some of these numbers show the same
 shown-alike : (numbers : List ℕ) → every (λ m. listed m these) numbers ≡ true → (a b : Return) → listed (a .reply .number) numbers ≡ true → listed (b .reply .number) numbers ≡ true
