@@ -4,7 +4,7 @@ use Prim.Native.Nat.{ℕ, _+_, _≤_, _<_}
 use native.Mathlib.Omega.{arith}
 use mathlib.Core.Path.{_≡_, refl, sym, ap, _∙_}
 use mathlib.Core.List.{List, [], _∷_, _++_}
-use mathlib.Core.Bool.{Bool, true}
+use mathlib.Core.Bool.{Bool, true, false}
 use lib.ListN.{length, getD, drop, replicate, length-replicate, getD-replicate, List·getD-append}
 use lib.Dec.{lit<}
 use borrow.Author.Tests.{le-leb}
@@ -14,7 +14,7 @@ use Rattle.numbers.specs.Numbers.{Judged, Outcome, done, refused, andThen, numb
 use Rattle.numbers.specs.Promise.{Said, Does, quietly}
 use Rattle.numbers.specs.declared.Refusal.{Refusal}
 use Rattle.numbers.specs.declared.Reply.{Reply}
-use Rattle.settings.specs.Settings.{usually}
+use Rattle.settings.specs.Settings.{usually, restrictedTo}
 use Rattle.settings.specs.declared.Settings.{Settings}
 use Rattle.codes.specs.Codes.{codeOf}
 use Rattle.blocks.specs.Blocks.{contents, readRow}
@@ -105,43 +105,53 @@ unfolding answered
 answer-room settings g h s block enciphered room k = rw (le-leb 65 room k)
 
 -- computed: the block of each account
-asks-said : (before : List ℕ) → 8 ≤ length before → (asks usualAccount before ≡ blockWith 0x56) × (asks otherAccount before ≡ blockWith 0x57)
+asks-said : (restricted : Bool) (before : List ℕ) → 8 ≤ length before → (asks restricted usualAccount before ≡ blockWith 0x56) × (asks restricted otherAccount before ≡ blockWith 0x57)
 unfolding packs leading allOf begins valueOf codeOf isFramed run number trailer keyType hexKey lettered key lmkField weakField keyPair keys formatField sealed shapeOf validationField offsetting weak end bkFields
     validationRow bkAsk askBy asking
-asks-said before h =
-    (ap quietly (ask-room usually (commandOf usualAccount) (length before) h) ∙ refl, ap quietly (ask-room usually (commandOf otherAccount) (length before) h) ∙ refl)
+asks-said true before h = (
+  ap quietly (ask-room (restrictedTo usually true) (commandOf usualAccount) (length before) h) ∙ refl,
+  ap quietly (ask-room (restrictedTo usually true) (commandOf otherAccount) (length before) h) ∙ refl,
+)
+asks-said false before h = (
+  ap quietly (ask-room (restrictedTo usually false) (commandOf usualAccount) (length before) h) ∙ refl,
+  ap quietly (ask-room (restrictedTo usually false) (commandOf otherAccount) (length before) h) ∙ refl,
+)
 
 -- computed: the response for each enciphered block. Of zeros the natural PIN is zeros, so the offset is the PIN's last digits
-answers-said : (before : List ℕ) → 65 ≤ length before
-    → (answers encipheredP9 before ≡ response (0x39 ∷ 0x32 ∷ 0x34 ∷ 0x37 ∷ [])) × (answers encipheredZeros before ≡ response (0x34 ∷ 0x35 ∷ 0x36 ∷ 0x37 ∷ []))
+answers-said : (restricted : Bool) (before : List ℕ) → 65 ≤ length before
+    → (answers restricted encipheredP9 before ≡ response (0x39 ∷ 0x32 ∷ 0x34 ∷ 0x37 ∷ [])) × (answers restricted encipheredZeros before ≡ response (0x34 ∷ 0x35 ∷ 0x36 ∷ 0x37 ∷ []))
 unfolding nibs xors every leading same allOf begins valueOf codeOf isFramed opening run number trailer keyType hexKey lettered key lmkField weakField entries isOn keyPair keys formatField sealed
     shapeOf validationField offsetting weak end slices parities boxed bkFields contents readRow pinWithNatural differences bkFinish bkAnswer answerBy answered
-answers-said before h = (
-  answer-room usually true true (commandOf usualAccount) blockP2 encipheredP9 (length before) h ∙ refl,
-  answer-room usually true true (commandOf usualAccount) blockP2 encipheredZeros (length before) h ∙ refl,
+answers-said true before h = (
+  answer-room (restrictedTo usually true) true true (commandOf usualAccount) blockP2 encipheredP9 (length before) h ∙ refl,
+  answer-room (restrictedTo usually true) true true (commandOf usualAccount) blockP2 encipheredZeros (length before) h ∙ refl,
+)
+answers-said false before h = (
+  answer-room (restrictedTo usually false) true true (commandOf usualAccount) blockP2 encipheredP9 (length before) h ∙ refl,
+  answer-room (restrictedTo usually false) true true (commandOf usualAccount) blockP2 encipheredZeros (length before) h ∙ refl,
 )
 
 -- ---- the cores
 
 pub commands-not-refusing : CommandsNotRefusing
-commands-not-refusing = (λ before h. only-00 _ _ (asks-said before h .0) before refl, λ before h. only-00 _ _ (answers-said before h .0) before refl)
+commands-not-refusing restricted = (λ before h. only-00 _ _ (asks-said restricted before h .0) before refl, λ before h. only-00 _ _ (answers-said restricted before h .0) before refl)
 
 pub commands-not-fixed : CommandsNotFixed
-commands-not-fixed = (
-  λ before h. apart _ _ _ _ (asks-said before h .0) (asks-said before h .1) 7 (lit< tt) (lit< tt) (omega arith) before,
-  λ before h. apart _ _ _ _ (answers-said before h .0) (answers-said before h .1) 8 (lit< tt) (lit< tt) (omega arith) before,
+commands-not-fixed restricted = (
+  λ before h. apart _ _ _ _ (asks-said restricted before h .0) (asks-said restricted before h .1) 7 (lit< tt) (lit< tt) (omega arith) before,
+  λ before h. apart _ _ _ _ (answers-said restricted before h .0) (answers-said restricted before h .1) 8 (lit< tt) (lit< tt) (omega arith) before,
 )
 
 pub commands-not-silent : CommandsNotSilent
-commands-not-silent = (
-  λ room r h. let l = length-replicate {A = ℕ} room 0 in not-zeros _ _ (asks-said (replicate room 0) (omega arith) .0) 0 (lit< tt) (omega arith) room r (omega arith),
-  λ room r h. let l = length-replicate {A = ℕ} room 0 in not-zeros _ _ (answers-said (replicate room 0) (omega arith) .0) 0 (lit< tt) (omega arith) room r (omega arith),
+commands-not-silent restricted = (
+  λ room r h. let l = length-replicate {A = ℕ} room 0 in not-zeros _ _ (asks-said restricted (replicate room 0) (omega arith) .0) 0 (lit< tt) (omega arith) room r (omega arith),
+  λ room r h. let l = length-replicate {A = ℕ} room 0 in not-zeros _ _ (answers-said restricted (replicate room 0) (omega arith) .0) 0 (lit< tt) (omega arith) room r (omega arith),
 )
 
 -- ---- the exchange
 
 pub papers-exchange : PapersExchange
-papers-exchange = (λ before h. asks-said before h .0, λ before h. answers-said before h .0)
+papers-exchange restricted = (λ before h. asks-said restricted before h .0, λ before h. answers-said restricted before h .0)
 
 -- ---- the reading of the fields
 

@@ -8,18 +8,18 @@ use Rattle.numbers.specs.Numbers.{refused, numberOf}
 use Rattle.numbers.specs.declared.Refusal.{Refusal}
 use Rattle.numbers.specs.Promise.{Said, Does, quietly}
 use Rattle.numbers.specs.declared.Reply.{Reply}
-use Rattle.settings.specs.Settings.{usually}
+use Rattle.settings.specs.Settings.{usually, restrictedTo}
 use Rattle.settings.specs.declared.Settings.{Settings}
 use Rattle.responses.specs.Responses.{roomToAnswer}
 use Rattle.commands.specs.Commands.{roomToAsk, asked, answered}
 use Rattle.claims_blocks.specs.Figures.{usualAccount}
 use Rattle.claims_blocks.specs.Promises.{Only00, Apart}
 use Rattle.claims_offsets.specs.Figures.{blockP2, tableP9, encipheredP9, validationP12}
-use Rattle.claims_commands.specs.Witnesses.{front, zeroKey, formatAndCheck}
+use Rattle.claims_commands.specs.Witnesses.{front, zeroKey, format01, check04}
 
 -- the command of "Run, not proved", with an account
 abbrev pub commandOf : List ℕ → List ℕ
-commandOf account = front ++ (zeroKey ++ (zeroKey ++ (replicate 16 0x30 ++ (formatAndCheck ++ (account ++ (tableP9 ++ validationP12))))))
+commandOf account = front ++ (zeroKey ++ (zeroKey ++ (replicate 16 0x30 ++ (format01 ++ (check04 ++ (account ++ (tableP9 ++ validationP12)))))))
 
 -- account 400000123457
 abbrev pub otherAccount : List ℕ
@@ -29,29 +29,32 @@ otherAccount = 0x34 ∷ 0x30 ∷ 0x30 ∷ 0x30 ∷ 0x30 ∷ 0x30 ∷ 0x31 ∷ 0x
 abbrev pub encipheredZeros : List ℕ
 encipheredZeros = replicate 8 0
 
--- what the asking call says to that command with an account, over the buffer that it is lent
-abbrev pub asks : List ℕ → List ℕ → Said ℕ
-asks account before = quietly (asked usually (commandOf account) (length before))
+-- what the asking call says to that command with an account, restricted or not, over the buffer that it is lent
+abbrev pub asks : Bool → List ℕ → List ℕ → Said ℕ
+asks restricted account before = quietly (asked (restrictedTo usually restricted) (commandOf account) (length before))
 
 -- what the answering call says to it, "with P2" and an enciphered block "and good parity"
-abbrev pub answers : List ℕ → List ℕ → Said ℕ
-answers enciphered before = answered usually true true (commandOf usualAccount) blockP2 enciphered (length before)
+abbrev pub answers : Bool → List ℕ → List ℕ → Said ℕ
+answers restricted enciphered before = answered (restrictedTo usually restricted) true true (commandOf usualAccount) blockP2 enciphered (length before)
 
 -- a core that refuses everything is rejected, at each of the two calls: no answer but 00 fits
 abbrev pub CommandsNotRefusing : Type 0
-CommandsNotRefusing = ((before : List ℕ) → roomToAsk ≤ length before → Only00 (asks usualAccount before) before)
-    × ((before : List ℕ) → roomToAnswer ≤ length before → Only00 (answers encipheredP9 before) before)
+CommandsNotRefusing = (restricted : Bool)
+    → ((before : List ℕ) → roomToAsk ≤ length before → Only00 (asks restricted usualAccount before) before)
+    × ((before : List ℕ) → roomToAnswer ≤ length before → Only00 (answers restricted encipheredP9 before) before)
 
 -- a core with one fixed block, or one fixed offset, is rejected: another account needs another block, another enciphered block another
 -- offset
 abbrev pub CommandsNotFixed : Type 0
-CommandsNotFixed = ((before : List ℕ) → roomToAsk ≤ length before → Apart (asks usualAccount before) (asks otherAccount before) before)
-    × ((before : List ℕ) → roomToAnswer ≤ length before → Apart (answers encipheredP9 before) (answers encipheredZeros before) before)
+CommandsNotFixed = (restricted : Bool)
+    → ((before : List ℕ) → roomToAsk ≤ length before → Apart (asks restricted usualAccount before) (asks restricted otherAccount before) before)
+    × ((before : List ℕ) → roomToAnswer ≤ length before → Apart (answers restricted encipheredP9 before) (answers restricted encipheredZeros before) before)
 
 -- a core that writes nothing is rejected, at each of the two calls: a buffer of zeros must not stay as it was
 abbrev pub CommandsNotSilent : Type 0
-CommandsNotSilent = ((room : ℕ) (r : Reply) → roomToAsk ≤ room → Does (asks usualAccount (replicate room 0)) (replicate room 0) r (replicate room 0) → ⊥)
-    × ((room : ℕ) (r : Reply) → roomToAnswer ≤ room → Does (answers encipheredP9 (replicate room 0)) (replicate room 0) r (replicate room 0) → ⊥)
+CommandsNotSilent = (restricted : Bool)
+    → ((room : ℕ) (r : Reply) → roomToAsk ≤ room → Does (asks restricted usualAccount (replicate room 0)) (replicate room 0) r (replicate room 0) → ⊥)
+    × ((room : ℕ) (r : Reply) → roomToAnswer ≤ room → Does (answers restricted encipheredP9 (replicate room 0)) (replicate room 0) r (replicate room 0) → ⊥)
 
 -- ---- the exchange that the paper runs
 
@@ -64,11 +67,12 @@ abbrev pub paperResponse : List ℕ
 paperResponse =
     0x48 ∷ 0x44 ∷ 0x52 ∷ 0x31 ∷ 0x42 ∷ 0x4C ∷ 0x30 ∷ 0x30 ∷ 0x39 ∷ 0x32 ∷ 0x34 ∷ 0x37 ∷ 0x46 ∷ 0x46 ∷ 0x46 ∷ 0x46 ∷ 0x46 ∷ 0x46 ∷ 0x46 ∷ 0x46 ∷ []
 
--- the exchange that the paper runs, proved: over every buffer that is long enough the asking call says 00 and P12's block, and the
--- answering call 00 and the twenty bytes of the response
+-- the exchange that the paper runs, proved: restricted or not, over every buffer that is long enough, the asking call says 00 and P12's
+-- block, and the answering call 00 and the twenty bytes of the response
 abbrev pub PapersExchange : Type 0
-PapersExchange = ((before : List ℕ) → roomToAsk ≤ length before → asks usualAccount before ≡ record { number = 0; written = blockP12 })
-    × ((before : List ℕ) → roomToAnswer ≤ length before → answers encipheredP9 before ≡ record { number = 0; written = paperResponse })
+PapersExchange = (restricted : Bool)
+    → ((before : List ℕ) → roomToAsk ≤ length before → asks restricted usualAccount before ≡ record { number = 0; written = blockP12 })
+    × ((before : List ℕ) → roomToAnswer ≤ length before → answers restricted encipheredP9 before ≡ record { number = 0; written = paperResponse })
 
 -- ---- the reading of the fields
 

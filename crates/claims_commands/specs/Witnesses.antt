@@ -1,13 +1,14 @@
 -- That the assumptions of demand 3 can be met, on each side of its "exactly when": runs of the command of "Run, not proved", with usual
--- settings, or with offsets of variable length, and good parity. The characters of the enciphered PIN block are the second run's own.
+-- settings, restricted or not, or with offsets of variable length, and good parity. The characters of the enciphered PIN block are the
+-- second run's own.
 use Prim.Native.Nat.{ℕ}
 use mathlib.Core.Path.{_≡_}
 use mathlib.Core.List.{List, [], _∷_, _++_}
-use mathlib.Core.Bool.{true}
+use mathlib.Core.Bool.{Bool, true, false}
 use lib.ListN.{length, replicate}
 use Rattle.numbers.specs.Numbers.{done}
 use Rattle.numbers.specs.Promise.{Said}
-use Rattle.settings.specs.Settings.{usually, variably}
+use Rattle.settings.specs.Settings.{usually, restrictedTo, variably}
 use Rattle.settings.specs.declared.Settings.{Settings}
 use Rattle.ibm3624.specs.Ibm3624.{covers, offsetOf}
 use Rattle.responses.specs.Responses.{roomToAnswer}
@@ -26,13 +27,20 @@ front = 0x48 ∷ 0x44 ∷ 0x52 ∷ 0x31 ∷ 0x42 ∷ 0x4B ∷ 0x30 ∷ 0x30 ∷ 
 abbrev pub zeroKey : List ℕ
 zeroKey = 0x55 ∷ replicate 32 0x30
 
--- `01`, `04`
-abbrev pub formatAndCheck : List ℕ
-formatAndCheck = 0x30 ∷ 0x31 ∷ 0x30 ∷ 0x34 ∷ []
+-- a format's two digits: `01`, `34`
+abbrev pub format01 : List ℕ
+format01 = 0x30 ∷ 0x31 ∷ []
 
--- from the enciphered PIN block's characters and the weak list
-abbrev pub command : List ℕ → List ℕ → List ℕ
-command sealed weak = front ++ (zeroKey ++ (zeroKey ++ (sealed ++ (formatAndCheck ++ (usualAccount ++ (tableP9 ++ (validationP12 ++ weak)))))))
+abbrev pub format34 : List ℕ
+format34 = 0x33 ∷ 0x34 ∷ []
+
+-- `04`
+abbrev pub check04 : List ℕ
+check04 = 0x30 ∷ 0x34 ∷ []
+
+-- from the format, the enciphered PIN block's characters and the weak list
+abbrev pub command : List ℕ → List ℕ → List ℕ → List ℕ
+command format sealed weak = front ++ (zeroKey ++ (zeroKey ++ (sealed ++ (format ++ (check04 ++ (usualAccount ++ (tableP9 ++ (validationP12 ++ weak))))))))
 
 -- ---- the runs
 
@@ -70,6 +78,20 @@ runLastFour = record {
   enciphered = 0x16 ∷ 0x4D ∷ 0xB0 ∷ 0x00 ∷ 0x00 ∷ 0x00 ∷ 0x00 ∷ 0x00 ∷ [];
 }
 
+-- a run with its PIN in another block
+abbrev pub holding : List ℕ → Run → Run
+holding block a = record { sealed = a .sealed; block = block; enciphered = a .enciphered }
+
+-- the PINs of runP9, runP10 and runOther in format 34: control 2, length 5, digits, F
+abbrev pub runP9In34 : Run
+runP9In34 = holding (0x25 ∷ 0x34 ∷ 0x56 ∷ 0x7F ∷ 0xFF ∷ 0xFF ∷ 0xFF ∷ 0xFF ∷ []) runP9
+
+abbrev pub runP10In34 : Run
+runP10In34 = holding (0x25 ∷ 0x45 ∷ 0x67 ∷ 0x8F ∷ 0xFF ∷ 0xFF ∷ 0xFF ∷ 0xFF ∷ []) runP10
+
+abbrev pub runOtherIn34 : Run
+runOtherIn34 = holding (0x25 ∷ 0x34 ∷ 0x56 ∷ 0x8F ∷ 0xFF ∷ 0xFF ∷ 0xFF ∷ 0xFF ∷ []) runOther
+
 -- `;02053456745678`: both PINs
 abbrev pub bothListed : List ℕ
 bothListed = 0x3B ∷ 0x30 ∷ 0x32 ∷ 0x30 ∷ 0x35 ∷ 0x33 ∷ 0x34 ∷ 0x35 ∷ 0x36 ∷ 0x37 ∷ 0x34 ∷ 0x35 ∷ 0x36 ∷ 0x37 ∷ 0x38 ∷ []
@@ -85,49 +107,53 @@ abbrev pub variable : Settings
 variable = variably usually true
 
 -- what a run answers
-abbrev pub answer : Settings → List ℕ → Run → Said ℕ
-answer settings weak a = answered settings true true (command (a .sealed) weak) (a .block) (a .enciphered) roomToAnswer
+abbrev pub answer : Settings → List ℕ → List ℕ → Run → Said ℕ
+answer settings format weak a = answered settings true true (command format (a .sealed) weak) (a .block) (a .enciphered) roomToAnswer
 
 -- two runs that meet the assumptions of demand 3, over m covered digits, and whose PINs are not the same
-pub record Meets (settings : Settings) (m : ℕ) (weak : List ℕ) (a b : Run) : Type 0 where
-  pub first : Reads settings true true roomToAnswer (command (a .sealed) weak) (a .block) (a .enciphered)
-  pub second : Reads settings true true roomToAnswer (command (b .sealed) weak) (b .block) (b .enciphered)
-  pub alike : AlikeBut (first .reaches .fields .sealed .block) (command (a .sealed) weak) (command (b .sealed) weak)
+pub record Meets (settings : Settings) (format : List ℕ) (m : ℕ) (weak : List ℕ) (a b : Run) : Type 0 where
+  pub first : Reads settings true true roomToAnswer (command format (a .sealed) weak) (a .block) (a .enciphered)
+  pub second : Reads settings true true roomToAnswer (command format (b .sealed) weak) (b .block) (b .enciphered)
+  pub alike : AlikeBut (first .reaches .fields .sealed .block) (command format (a .sealed) weak) (command format (b .sealed) weak)
   pub long : length (first .found .0) ≡ length (second .found .0)
   pub covered : covers (settings .variable) (first .reaches .fields .offsetting .check) (length (first .found .0)) ≡ done m
   pub apart : first .found .0 ≡ second .found .0 → ⊥
 
-abbrev pub Agree : Settings → ℕ → List ℕ → Run → Run → Type 0
-Agree settings m weak a b = Meets settings m weak a b × (answer settings weak a ≡ answer settings weak b)
+abbrev pub Agree : Settings → List ℕ → ℕ → List ℕ → Run → Run → Type 0
+Agree settings format m weak a b = Meets settings format m weak a b × (answer settings format weak a ≡ answer settings format weak b)
 
-abbrev pub Differ : Settings → ℕ → List ℕ → Run → Run → Type 0
-Differ settings m weak a b = Meets settings m weak a b × (answer settings weak a ≡ answer settings weak b → ⊥)
+abbrev pub Differ : Settings → List ℕ → ℕ → List ℕ → Run → Run → Type 0
+Differ settings format m weak a b = Meets settings format m weak a b × (answer settings format weak a ≡ answer settings format weak b → ⊥)
 
--- neither PIN is weak, and the differences agree; or they do not
+-- neither PIN is weak, and the differences agree; or they do not. Restricted or not, in format 01
 abbrev pub AlikeRuns : Type 0
-AlikeRuns = Agree usually 4 [] runP9 runP10
+AlikeRuns = (restricted : Bool) → Agree (restrictedTo usually restricted) format01 4 [] runP9 runP10
 
 abbrev pub UnlikeRuns : Type 0
-UnlikeRuns = Differ usually 4 [] runP9 runOther
+UnlikeRuns = (restricted : Bool) → Differ (restrictedTo usually restricted) format01 4 [] runP9 runOther
+
+-- the same in format 34, which only a box has whose formats are not restricted
+abbrev pub UnrestrictedRuns : Type 0
+UnrestrictedRuns = Agree (restrictedTo usually false) format34 4 [] runP9In34 runP10In34 × Differ (restrictedTo usually false) format34 4 [] runP9In34 runOtherIn34
 
 -- the differences do not agree over all five digits, but over the four that are covered: the runs answer alike
 pub record UncoveredRuns : Type 0 where
-  pub met : Meets usually 4 [] runP9 runLastFour
+  pub met : Meets usually format01 4 [] runP9 runLastFour
   pub five : offsetOf 5 (met .first .found .0) (met .first .found .1) ≡ offsetOf 5 (met .second .found .0) (met .second .found .1) → ⊥
   pub four : offsetOf 4 (met .first .found .0) (met .first .found .1) ≡ offsetOf 4 (met .second .found .0) (met .second .found .1)
-  pub agree : answer usually [] runP9 ≡ answer usually [] runLastFour
+  pub agree : answer usually format01 [] runP9 ≡ answer usually format01 [] runLastFour
 
 -- with variable length all five are covered: the runs of equal differences answer alike, and those that differ in the first do not
 abbrev pub VariableRuns : Type 0
-VariableRuns = Agree variable 5 [] runP9 runP10 × Differ variable 5 [] runP9 runLastFour
+VariableRuns = Agree variable format01 5 [] runP9 runP10 × Differ variable format01 5 [] runP9 runLastFour
 
 -- both PINs are weak; or one is
 abbrev pub BothWeak : Type 0
-BothWeak = Agree usually 4 bothListed runP9 runP10
+BothWeak = Agree usually format01 4 bothListed runP9 runP10
 
 abbrev pub OneWeak : Type 0
-OneWeak = Differ usually 4 oneListed runP9 runP10
+OneWeak = Differ usually format01 4 oneListed runP9 runP10
 
 -- all of them
 abbrev pub AssumptionsMet : Type 0
-AssumptionsMet = AlikeRuns × UnlikeRuns × UncoveredRuns × VariableRuns × BothWeak × OneWeak
+AssumptionsMet = AlikeRuns × UnlikeRuns × UnrestrictedRuns × UncoveredRuns × VariableRuns × BothWeak × OneWeak

@@ -6,7 +6,7 @@ use mathlib.Core.Logic.{inl, inr}
 use mathlib.Core.Bool.{Bool, true, false}
 use Rattle.nibbles.specs.Nibbles.{nibs, packs, xors, every, leading, same}
 use Rattle.alphabet.specs.Alphabet.{allOf, valueOf}
-use Rattle.settings.specs.Settings.{usually, variably}
+use Rattle.settings.specs.Settings.{usually, restrictedTo, variably}
 use Rattle.blocks.specs.Blocks.{contents, readRow}
 use Rattle.ibm3624.specs.Ibm3624.{differences}
 use Rattle.offsets.specs.Offsets.{pinWithNatural}
@@ -57,8 +57,13 @@ full-is restricted allowed = record {
   ids = (refl, (refl, tt));
 }
 
+-- format 47 is allowed under either setting
+full-is-either : (restricted : Bool) → IsBk restricted full
+full-is-either true = full-is true (inr (inl refl))
+full-is-either false = full-is false tt
+
 pub full-is-bk : FullIsBk
-full-is-bk = (full-is true (inr (inl refl)), full-is false tt, refl)
+full-is-bk = (full-is-either, refl)
 
 spare-is : IsBk false spare
 unfolding allOf
@@ -82,15 +87,15 @@ header-is = (omega arith, (refl, refl))
 
 pub full-is-asked : FullIsAsked
 unfolding packs valueOf
-full-is-asked room roomy = asks-parts usually room (printed "HDR1") full roomy header-is (full-is false tt)
+full-is-asked restricted room roomy = asks-parts (restrictedTo usually restricted) room (printed "HDR1") full roomy header-is (full-is-either restricted)
 
 pub full-is-answered : FullIsAnswered
 unfolding nibs xors every leading same valueOf contents readRow pinWithNatural differences isOn
-full-is-answered room roomy = (said true, said false)
+full-is-answered restricted room roomy = (said true, said false)
   where
-    said : (variable : Bool) → fullSaid variable room ≡ responseTo (printed "HDR1") full (finishOf variable full fullBlock fullEnciphered)
-    said variable = answers-parts (variably usually variable) fullBlock fullEnciphered room (printed "HDR1") full refl refl roomy header-is (full-is false tt)
+    said : (variable : Bool) → fullSaid restricted variable room ≡ responseTo (printed "HDR1") full (finishOf variable full fullBlock fullEnciphered)
+    said variable = answers-parts (variably (restrictedTo usually restricted) variable) fullBlock fullEnciphered room (printed "HDR1") full refl refl roomy header-is (full-is-either restricted)
 
 pub spare-is-asked : SpareIsAsked
 unfolding packs valueOf
-spare-is-asked room roomy = asks-parts usually room (printed "HDR1") spare roomy header-is spare-is
+spare-is-asked room roomy = asks-parts (restrictedTo usually false) room (printed "HDR1") spare roomy header-is spare-is

@@ -7,7 +7,7 @@ use mathlib.Core.List.{List, [], _∷_, _++_}
 use lib.ListN.{replicate}
 use Rattle.numbers.specs.Numbers.{done}
 use Rattle.numbers.specs.Promise.{Said}
-use Rattle.settings.specs.Settings.{usually, variably}
+use Rattle.settings.specs.Settings.{usually, restrictedTo, variably}
 use Rattle.formats.specs.declared.Format.the-variants.{F03, F47}
 use Rattle.commands.specs.Commands.{asked, answered}
 use Rattle.texts.specs.Characters.{printed}
@@ -65,12 +65,12 @@ fullText =
 
 -- it is one of the paper's, restricted or not, and those are its bytes
 abbrev pub FullIsBk : Type 0
-FullIsBk = IsBk true full × IsBk false full × (bkText full ≡ fullText)
+FullIsBk = ((restricted : Bool) → IsBk restricted full) × (bkText full ≡ fullText)
 
--- so behind a header and `BK` the asking call takes it, and asks for the block that its `P` data say
+-- so behind a header and `BK` the asking call takes it, restricted or not, and asks for the block that its `P` data say
 abbrev pub FullIsAsked : Type 0
-FullIsAsked = (room : ℕ) → 8 ≤ room
-    → asked usually (printed "HDR1BK" ++ fullText) room ≡ done (0xFE ∷ 0xDC ∷ 0xBA ∷ 0x98 ∷ 0x76 ∷ 0x54 ∷ 0x32 ∷ 0x10 ∷ [])
+FullIsAsked = (restricted : Bool) (room : ℕ) → 8 ≤ room
+    → asked (restrictedTo usually restricted) (printed "HDR1BK" ++ fullText) room ≡ done (0xFE ∷ 0xDC ∷ 0xBA ∷ 0x98 ∷ 0x76 ∷ 0x54 ∷ 0x32 ∷ 0x10 ∷ [])
 
 -- ---- the whole exchange with it
 
@@ -82,16 +82,16 @@ fullBlock = 0x36 ∷ 0x24 ∷ 0x28 ∷ 0x13 ∷ 0xFA ∷ 0xAE ∷ 0xEA ∷ 0xAC 
 abbrev pub fullEnciphered : List ℕ
 fullEnciphered = 0x0F ∷ 0x1E ∷ 0x2D ∷ 0x3C ∷ 0x4B ∷ 0x5A ∷ 0x69 ∷ 0x78 ∷ []
 
--- what is said to it, under a setting for variable length
-abbrev pub fullSaid : Bool → ℕ → Said ℕ
-fullSaid variable room = answered (variably usually variable) true true (printed "HDR1BK" ++ fullText) fullBlock fullEnciphered room
+-- what is said to it, under a setting for restricted formats and one for variable length
+abbrev pub fullSaid : Bool → Bool → ℕ → Said ℕ
+fullSaid restricted variable room = answered (variably (restrictedTo usually restricted) variable) true true (printed "HDR1BK" ++ fullText) fullBlock fullEnciphered room
 
 -- with offsets of variable length all six digits are covered, 246813 less 948576, and the trailer comes back; its check length of
 -- twelve, over six, is 81 otherwise
 abbrev pub FullIsAnswered : Type 0
-FullIsAnswered = (room : ℕ) → 65 ≤ room
-    → (fullSaid true room ≡ record { number = 0; written = printed "HDR1BL00308347FFFFFF" ++ (0x19 ∷ printed " The trailer has 32 characters.~") })
-    × (fullSaid false room ≡ record { number = 81; written = printed "HDR1BL81" })
+FullIsAnswered = (restricted : Bool) (room : ℕ) → 65 ≤ room
+    → (fullSaid restricted true room ≡ record { number = 0; written = printed "HDR1BL00308347FFFFFF" ++ (0x19 ∷ printed " The trailer has 32 characters.~") })
+    × (fullSaid restricted false room ≡ record { number = 81; written = printed "HDR1BL81" })
 
 -- another one: type 002, a `T` and a `U` key, `N` data, one weak PIN of twelve digits, no id, and a trailer of its mark alone
 abbrev pub spare : BkParts
@@ -119,4 +119,4 @@ SpareIsBk = IsBk false spare × (bkText spare ≡ spareText)
 
 abbrev pub SpareIsAsked : Type 0
 SpareIsAsked = (room : ℕ) → 8 ≤ room
-    → asked usually (printed "HDR1BK" ++ spareText) room ≡ done (0x01 ∷ 0x23 ∷ 0x45 ∷ 0x67 ∷ 0x89 ∷ 0xA2 ∷ 0x34 ∷ 0x56 ∷ [])
+    → asked (restrictedTo usually false) (printed "HDR1BK" ++ spareText) room ≡ done (0x01 ∷ 0x23 ∷ 0x45 ∷ 0x67 ∷ 0x89 ∷ 0xA2 ∷ 0x34 ∷ 0x56 ∷ [])

@@ -5,7 +5,7 @@ use mathlib.Core.List.{List, [], _∷_}
 use lib.ListN.{set, replicate}
 use Rattle.claims_blocks.specs.Figures.{usualAccount}
 use Rattle.claims_offsets.specs.Figures.{tableP9, validationP12}
-use Rattle.claims_commands.specs.Witnesses.{zeroKey}
+use Rattle.claims_commands.specs.Witnesses.{zeroKey, format01, check04}
 
 -- a command with another part at a place
 abbrev pub but : ℕ → List ℕ → List (List ℕ) → List (List ℕ)
@@ -24,16 +24,9 @@ type001 = 0x30 ∷ 0x30 ∷ 0x31 ∷ []
 abbrev pub typeFFF : List ℕ
 typeFFF = 0x46 ∷ 0x46 ∷ 0x46 ∷ []
 
--- `01`, `05`
-abbrev pub format01 : List ℕ
-format01 = 0x30 ∷ 0x31 ∷ []
-
+-- `05`
 abbrev pub format05 : List ℕ
 format05 = 0x30 ∷ 0x35 ∷ []
-
--- `04`
-abbrev pub check04 : List ℕ
-check04 = 0x30 ∷ 0x34 ∷ []
 
 -- "Run, not proved": `HDR1BK001`, `U` and 32 zeros twice, 16 zeros, `01`, `04`, account, table and validation data
 abbrev pub exchange : List (List ℕ)

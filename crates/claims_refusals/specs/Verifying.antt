@@ -10,9 +10,9 @@ use Rattle.texts.specs.Characters.{printed}
 use Rattle.claims_blocks.specs.Figures.{usualAccount, blockP1}
 use Rattle.claims_offsets.specs.Figures.{blockP2, tableP9, encipheredP9, validationP12}
 use Rattle.claims_figures.specs.Figures.{says}
-use Rattle.claims_commands.specs.Witnesses.{zeroKey}
+use Rattle.claims_commands.specs.Witnesses.{zeroKey, format01, check04}
 use Rattle.claims_commands.specs.Cores.{blockP12}
-use Rattle.claims_refusals.specs.Parts.{but, format01, format05, check04, id00, trailerEND, keyX, smallHex, format99, format41, check13, check06, accountA, tableA, validationNN, otherListed, id10, id01, trailer33, leftX}
+use Rattle.claims_refusals.specs.Parts.{but, format05, id00, trailerEND, keyX, smallHex, format99, format41, check13, check06, accountA, tableA, validationNN, otherListed, id10, id01, trailer33, leftX}
 use Rattle.claims_refusals.specs.Refusals.{KeyBox, keyBox, good, goodP4, threeDigits, sevenBytes, Calls, Silent, BothRefuse}
 
 -- ---- commands without a fault

@@ -154,7 +154,7 @@ restricted-run zone = refl
 
 -- the text that BK's response has behind its number
 bk-offset : part (answer usually paperCall .written) 8 12 ≡ offsetP9
-bk-offset = ap (λ (x : Said ℕ). part (x .written) 8 12) (papers-exchange .1 (replicate 65 0) (le-refl 65))
+bk-offset = ap (λ (x : Said ℕ). part (x .written) 8 12) (papers-exchange (usually .restricted) .1 (replicate 65 0) (le-refl 65))
 
 papers-verification : PapersVerification
 unfolding nibs xors every leading same allOf begins valueOf codes.codeOf contents readRow differences pinWithNatural isFramed opening run number trailer hexKey lettered key lmkField keyPair formatField sealed shapeOf validationField offsetting offsetField end slices parities boxed front verifyFields verifyFinish verifyAnswer answerBy answered reaching meets
