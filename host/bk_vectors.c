@@ -49,9 +49,9 @@ static const struct exchange exchanges[] = {
 	{ "paper, format: 01 restricted", RESTRICTED, GOOD, TEXT(COMMAND),
 		0, 0, NOWHERE, TEXT("HDR1BL009247FFFFFFFF") },
 
-	{ "request 2, BK: the instructor's block", USUAL, GOOD_WITH(instructors_block),
+	{ "request 2, BK: the instructor's block", UNRESTRICTED, GOOD_WITH(instructors_block),
 		TEXT(WITH_FORMAT("03")), 0, 20, NOWHERE, TEXT("HDR1BL20") },
-	{ "request 2, BK: 20 comes before 81", USUAL, GOOD_WITH(instructors_block),
+	{ "request 2, BK: 20 comes before 81", UNRESTRICTED, GOOD_WITH(instructors_block),
 		TEXT(COMMAND_OF("BK", HEX_KEYS, "03", "05", PAPER_TABLE)),
 		0, 20, NOWHERE, TEXT("HDR1BL20") },
 
@@ -107,7 +107,7 @@ static const struct exchange exchanges[] = {
 	{ "paper, the answering call: 81 comes before 86", USUAL, GOOD,
 		TEXT(WITH_CHECK("06") ";010534567"), 0, 81, NOWHERE, TEXT("HDR1BL81") },
 
-	{ "paper, no frame: header setting 17", { 17, 0, 0 }, GOOD, TEXT(COMMAND),
+	{ "paper, no frame: header setting 17", USUAL_WITH(17, 0), GOOD, TEXT(COMMAND),
 		902, 902, NOWHERE, TEXT("") },
 	{ "paper, no frame: under header + 2", USUAL, GOOD, TEXT("HDR1B"),
 		902, 902, NOWHERE, TEXT("") },
@@ -115,7 +115,7 @@ static const struct exchange exchanges[] = {
 		902, 902, NOWHERE, TEXT("") },
 	{ "paper, a frame and nothing else", USUAL, GOOD, TEXT("HDR1BK"),
 		15, 15, AT(6, 1), TEXT("HDR1BL15") },
-	{ "paper, header length 0", { 0, 0, 0 }, GOOD, TEXT("EE"), 68, 68, NOWHERE, TEXT("EF68") },
+	{ "paper, header length 0", USUAL_WITH(0, 0), GOOD, TEXT("EE"), 68, 68, NOWHERE, TEXT("EF68") },
 };
 
 void bk_vectors(void)

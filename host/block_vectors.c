@@ -109,7 +109,7 @@ static void refuse_translation(const struct refused *r)
 
 	block_of(r->block, block);
 	untouched(out);
-	qg_reply reply = qg_translate(usual, r->format, PAPER_FORMAT, block, BLOCK,
+	qg_reply reply = qg_translate(unrestricted, r->format, PAPER_FORMAT, block, BLOCK,
 		characters(paper_account), ACCOUNT, zero_fill, BLOCK, out, LENT);
 	hold_refused("translated", r->source, reply, out, r->number);
 }
@@ -125,7 +125,7 @@ static void translate_vector(const struct vector *from, const struct vector *to)
 	block_of(from->block, read);
 	block_of(to->block, written);
 	untouched(out);
-	qg_reply reply = qg_translate(usual, from->format, to->format, read, BLOCK,
+	qg_reply reply = qg_translate(unrestricted, from->format, to->format, read, BLOCK,
 		characters(from->account), ACCOUNT, zero_fill, BLOCK, out, LENT);
 	hold(deed, from->source, reply, out, 0, written, BLOCK);
 }

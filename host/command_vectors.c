@@ -82,7 +82,7 @@ void play(const struct exchange *rows, size_t count)
 static void refuse_short_output(void)
 {
 	static const struct exchange bare[] = {
-		{ "paper, output: one byte too short", { 17, 0, 0 }, GOOD, TEXT(COMMAND),
+		{ "paper, output: one byte too short", USUAL_WITH(17, 0), GOOD, TEXT(COMMAND),
 			901, 901, NOWHERE, TEXT("") },
 		{ "paper, output: one byte too short for a DA", USUAL, GOOD, TEXT(VERIFICATION("DA")),
 			901, 901, NOWHERE, TEXT("") },
@@ -100,7 +100,7 @@ static void refuse_short_output(void)
 static void fill_least_output(void)
 {
 	static const struct exchange longest = {
-		"paper, output: the longest response", { 16, 0, 1 }, GOOD,
+		"paper, output: the longest response", USUAL_WITH(16, 1), GOOD,
 		TEXT(HEADER_16 "BK" HEX_KEYS ZEROS "01" "04" PAPER_ACCOUNT PAPER_TABLE PAPER_VALIDATION
 			TRAILER_MARK TRAILER_32),
 		0, 0, NOWHERE, TEXT(HEADER_16 "BL" "00" "49247FFFFFFF" TRAILER_MARK TRAILER_32),

@@ -91,9 +91,6 @@ struct exchange {
 	struct text response;
 };
 
-#define USUAL { 4, 0, 0 }
-#define RESTRICTED { 4, 1, 0 }
-#define VARIABLE { 4, 0, 1 }
 #define PARITIES(pin_key, pvk) pin_key, pvk, paper_block
 #define GOOD PARITIES(1, 1)
 #define GOOD_WITH(block) 1, 1, block

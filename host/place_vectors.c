@@ -295,7 +295,7 @@ static void refuse(const struct fault *f)
 {
 	char response[LENT];
 	struct exchange e = {
-		f->source, { f->header, 0, 0 }, GOOD, f->command, f->number, f->number, f->at,
+		f->source, USUAL_WITH(f->header, 0), GOOD, f->command, f->number, f->number, f->at,
 		{ response, refusal(f->header, f->command, f->number, response) },
 	};
 

@@ -9,7 +9,8 @@
 #include <stdio.h>
 #include <string.h>
 
-const qg_settings usual = { .header = 4, .restricted = 0, .variable = 0 };
+const qg_settings usual = USUAL;
+const qg_settings unrestricted = UNRESTRICTED;
 const char paper_account[] = "400000123456";
 const char paper_block[] = "0534167FFFEDCBA9";
 const char instructors_block[] = "1234FF9900000000";

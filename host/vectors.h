@@ -22,7 +22,16 @@
 /* Room for the words that say what was done. */
 #define DEED 64
 
+/* The usual settings with a header's length and variable length or not; and
+ * restricted formats by name, Yes or No. */
+#define USUAL_WITH(header, variable) { header, 0, variable }
+#define USUAL USUAL_WITH(4, 0)
+#define VARIABLE USUAL_WITH(4, 1)
+#define RESTRICTED { 4, 1, 0 }
+#define UNRESTRICTED { 4, 0, 0 }
+
 extern const qg_settings usual;
+extern const qg_settings unrestricted;
 
 /* The account of the paper's figures, and their PIN 34567 in a block: P2's. */
 extern const char paper_account[];

@@ -115,8 +115,8 @@ fn tell_mistakes() {
 }
 
 fn main() {
-    // The course relies on the usual setting: formats are not restricted.
-    let settings = Settings::usual();
+    // Formats 03, 34 and 35 are for a box whose formats are not restricted: the course asks for that by name.
+    let settings = Settings::usual().with_restricted(false);
     let pin = PIN;
     let account = ACCOUNT;
     show_digits(b"PIN             ", &pin);

@@ -83,7 +83,7 @@ abbrev pub RefusedCommands : Type 0
 RefusedCommands =
     -- without a fault, beside the exchange itself (`PapersExchange`): the longer command, and format 05 where it is allowed
     Calls usually 8 65 good longer (says 0 blockP12) (says 0 (paperResponse ++ trailerEND))
-    × Calls usually 8 65 goodP4 (but 5 format05 exchange) (says 0 blockP12) (says 0 paperResponse)
+    × Calls (restrictedTo usually false) 8 65 goodP4 (but 5 format05 exchange) (says 0 blockP12) (says 0 paperResponse)
     -- 901: "at least 65 bytes for the answering call, 8 for the asking call"
     × Silent usually 7 64 exchange 901
     -- 902: a header setting of 17, a header byte 7F, a command of five bytes

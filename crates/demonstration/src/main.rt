@@ -10,7 +10,7 @@ fn show_line(text: &[u8]) {
 }
 
 fn main() {
-    let settings = Settings::usual();
+    let settings = Settings::usual().with_restricted(false);
     let command = classroom::COMMAND;
     let block = PIN_BLOCK;
     let enciphered = classroom::ENCIPHERED;
