@@ -4,7 +4,7 @@ mod common;
 
 use common::bk::*;
 use common::command::{answered, answered_with, Command, P2, P9};
-use common::{at, bytes, done, refused};
+use common::{at, bytes, done, refused, unrestricted};
 use reference::{answer, ask, usual, Settings};
 
 /// Where the fields of the paper's run begin, with their numbers: a header of 4 and a code of 2,
@@ -40,7 +40,7 @@ fn each_field() {
     assert_eq!(told(PIN_BLOCK, b"000000000000000a"), (15, 75, 4));
     assert_eq!(told(FORMAT, b"0A"), (15, 91, 5));
     assert_eq!(told(FORMAT, b"02"), (23, 91, 5));
-    assert_eq!(told(FORMAT, b"41"), (69, 91, 5));
+    assert_eq!(of_the_paper().with(FORMAT, b"41").told(unrestricted()), (69, 91, 5));
     assert_eq!(told(CHECK, b"13"), (15, 93, 6));
     assert_eq!(told(CHECK, b"0A"), (15, 93, 6));
     assert_eq!(told(ACCOUNT_FIELD, b"40000012345A"), (15, 95, 7));

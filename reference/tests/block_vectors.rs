@@ -3,7 +3,8 @@
 mod common;
 
 use common::{
-    bytes, digits, done, refused, ACCOUNT, CLEAN_03, NO_FILL, RUBBISH_03, SHORT_03, UNTOUCHED,
+    bytes, digits, done, refused, unrestricted, ACCOUNT, CLEAN_03, NO_FILL, RUBBISH_03, SHORT_03,
+    UNTOUCHED,
 };
 use reference::{read_block, translate, write_block, Reply, Settings};
 
@@ -285,7 +286,7 @@ fn restricted_pairs() {
         let reply = translate(settings, from, to, &block, ACCOUNT, NO_FILL, &mut [0; 8]);
         let expected = if allowed.contains(&(from, to)) { done(8) } else { refused(69) };
         assert_eq!(reply, expected, "{from} to {to}");
-        let reply = translate(Settings::usual(), from, to, &block, ACCOUNT, NO_FILL, &mut [0; 8]);
+        let reply = translate(unrestricted(), from, to, &block, ACCOUNT, NO_FILL, &mut [0; 8]);
         assert_eq!(reply, done(8), "{from} to {to}");
     }
 }

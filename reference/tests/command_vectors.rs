@@ -4,7 +4,7 @@ mod common;
 
 use common::bk::*;
 use common::command::{answered, P2, P9};
-use common::{at, bytes, done, refused, CLEAN_03, RUBBISH_03, SHORT_03, UNTOUCHED};
+use common::{at, bytes, done, refused, unrestricted, CLEAN_03, RUBBISH_03, SHORT_03, UNTOUCHED};
 use reference::{answer, ask, usual, Settings};
 
 /// "answers `HDR1BL009247FFFFFFFF`: header, response code, 00, offset."
@@ -91,7 +91,7 @@ fn plain_fields() {
     assert_eq!(whole().with(PIN_BLOCK, b"00000000abCDEF00").number(), 15);
     assert_eq!(whole().with(FORMAT, b"0A").number(), 15);
     assert_eq!(whole().with(FORMAT, b"02").number(), 23);
-    assert_eq!(whole().with(FORMAT, b"41").number(), 69);
+    assert_eq!(whole().with(FORMAT, b"41").told(unrestricted()).0, 69);
     assert_eq!(whole().with(CHECK, b"13").number(), 15);
     assert_eq!(whole().with(ACCOUNT_FIELD, b"40000012345A").number(), 15);
     assert_eq!(whole().with(TABLE_FIELD, b"012345678901234A").number(), 25);
@@ -273,8 +273,8 @@ fn blocks_of_format_03() {
     let weak = b";01041234\x19end";
     let response = |parities, check: &[u8], options: &[u8], block: &str| {
         let command = of_the_paper().with(FORMAT, b"03").with(CHECK, check).with(OPTIONS, options);
-        assert_eq!(ask(usual(), &command.bytes(), &mut [0; 8]), done(8));
-        let (reply, response) = answered(usual(), parities, &command.bytes(), &bytes(block));
+        assert_eq!(ask(unrestricted(), &command.bytes(), &mut [0; 8]), done(8));
+        let (reply, response) = answered(unrestricted(), parities, &command.bytes(), &bytes(block));
         assert_eq!(format!("{:02}", reply.number).as_bytes(), &response[6..8]);
         String::from_utf8(response).expect("characters")
     };

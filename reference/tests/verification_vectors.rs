@@ -5,7 +5,7 @@ mod common;
 
 use common::command::{answered, answered_with, Command, P2, P9};
 use common::verification::*;
-use common::{at, bytes, done, refused, CLEAN_03, RUBBISH_03, SHORT_03, UNTOUCHED};
+use common::{at, bytes, done, refused, unrestricted, CLEAN_03, RUBBISH_03, SHORT_03, UNTOUCHED};
 use reference::{answer, ask, usual, Settings};
 
 fn restricted() -> Settings {
@@ -145,7 +145,7 @@ fn formats_are_not_restricted() {
         ("35", "25 34 16 7F FF ED CB A9"),
         ("47", "35 34 16 7A AA B8 9E FC"),
     ] {
-        for settings in [usual(), restricted()] {
+        for settings in [unrestricted(), restricted()] {
             for command in both() {
                 let command = command.with(FORMAT, format.as_bytes()).bytes();
                 assert_eq!(ask(settings, &command, &mut [0; 8]), done(8));
@@ -154,7 +154,7 @@ fn formats_are_not_restricted() {
             }
         }
     }
-    for settings in [usual(), restricted()] {
+    for settings in [unrestricted(), restricted()] {
         assert_eq!(number_of_both(settings, |it| it.with(FORMAT, b"41")), 69);
         assert_eq!(number_of_both(settings, |it| it.with(FORMAT, b"02")), 23);
         assert_eq!(number_of_both(settings, |it| it.with(FORMAT, b"0A")), 15);
@@ -436,7 +436,7 @@ fn blocks_of_format_03() {
         let assert_answers = |number: &[u8], parities, check: &[u8], offset: &[u8], block: &str| {
             let command = of_the_paper(code).with(FORMAT, b"03").with(CHECK, check);
             let command = command.with(OFFSET, offset).bytes();
-            for settings in [usual(), restricted()] {
+            for settings in [unrestricted(), restricted()] {
                 let (reply, response) = answered(settings, parities, &command, &bytes(block));
                 assert_eq!(response, [b"HDR1", response_code, number].concat());
                 assert_eq!(format!("{:02}", reply.number).as_bytes(), number);

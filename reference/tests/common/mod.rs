@@ -7,7 +7,7 @@ pub mod format_03;
 pub mod verification;
 pub mod walk;
 
-use reference::Reply;
+use reference::{Reply, Settings};
 
 pub const ACCOUNT: &[u8] = b"400000123456";
 pub const TABLE: &[u8] = b"0123456789012345";
@@ -19,6 +19,13 @@ pub const UNTOUCHED: u8 = 0xA5;
 pub const RUBBISH_03: &str = "12 34 FF 99 00 00 00 00";
 pub const CLEAN_03: &str = "12 34 FF FF FF FF FF FF";
 pub const SHORT_03: &str = "12 3F 99 00 00 00 00 00";
+
+/// Restricted formats No, asked for by name: where BK is sent a format, or translation a pair, that
+/// it allows under No alone; where 69 must come of a format that is not built, since under Yes BK
+/// answers it to all but 01 and 47; and where both settings are played.
+pub fn unrestricted() -> Settings {
+    Settings { restricted: false, ..Settings::usual() }
+}
 
 /// Hex pairs, with or without spaces between them, as bytes.
 pub fn bytes(hex: &str) -> Vec<u8> {
