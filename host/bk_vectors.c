@@ -42,7 +42,7 @@ static const struct exchange exchanges[] = {
 
 	{ "paper, format: 02", USUAL, GOOD, TEXT(WITH_FORMAT("02")),
 		23, 23, AT(91, 5), TEXT("HDR1BL23") },
-	{ "paper, format: 41", USUAL, GOOD, TEXT(WITH_FORMAT("41")),
+	{ "paper, format: 41", UNRESTRICTED, GOOD, TEXT(WITH_FORMAT("41")),
 		69, 69, AT(91, 5), TEXT("HDR1BL69") },
 	{ "paper, format: 05 restricted", RESTRICTED, GOOD, TEXT(WITH_FORMAT("05")),
 		69, 69, AT(91, 5), TEXT("HDR1BL69") },

@@ -103,10 +103,10 @@ PointedBk =
     -- 4: a small letter, fifteen characters
     × BothPoint (but 4 smallHex exchange) 15 75 4
     × BothPoint (ending 4 (replicate 15 0x30) longer) 15 43 4
-    -- 5: a letter, 23, 69, and 69 by the setting
+    -- 5: a letter, 23, 69 where every built format is allowed, and 69 by the setting
     × BothPoint (but 5 format0A exchange) 15 91 5
     × BothPoint (but 5 format99 longer) 23 59 5
-    × BothPoint (but 5 format41 exchange) 69 91 5
+    × CallsPoint (restrictedTo usually false) 8 65 good (but 5 format41 exchange) (points 69 91 5) (points 69 91 5)
     × CallsPoint (restrictedTo usually true) 8 65 goodP4 (but 5 format05 longer) (points 69 59 5) (points 69 59 5)
     -- 6: outside its range, none
     × BothPoint (but 6 check13 exchange) 15 93 6

@@ -103,7 +103,7 @@ RefusedCommands =
     × BothRefuse (but 4 smallHex exchange) 15 (hdr1bl 0x31 0x35)
     × BothRefuse (but 5 format0A exchange) 15 (hdr1bl 0x31 0x35)
     × BothRefuse (but 5 format99 exchange) 23 (hdr1bl 0x32 0x33)
-    × BothRefuse (but 5 format41 exchange) 69 (hdr1bl 0x36 0x39)
+    × Calls (restrictedTo usually false) 8 65 good (but 5 format41 exchange) (says 69 []) (says 69 (hdr1bl 0x36 0x39))
     × BothRefuse (but 6 check13 exchange) 15 (hdr1bl 0x31 0x35)
     × BothRefuse (but 7 accountA exchange) 15 (hdr1bl 0x31 0x35)
     × BothRefuse (but 8 tableA exchange) 25 (hdr1bl 0x32 0x35)
