@@ -1,0 +1,1 @@
+// What the setting of restricted formats touches.
