@@ -22,8 +22,8 @@ static const struct {
 	[REFERENCE] = { reference_ask, reference_answer },
 };
 
-/* A header of four characters; formats not restricted, no variable length. */
-static const qg_settings settings = { 4, 0, 0 };
+/* The usual settings. Every load is of format 01, which they allow. */
+static const qg_settings settings = { .header = 4, .restricted = 1, .variable = 0 };
 
 qg_reply make_call(enum core core, enum call call, const struct load *load,
 	const struct command *command, uint8_t *out)

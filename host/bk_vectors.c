@@ -8,6 +8,17 @@
 /* A command that ends in its decimalisation table. */
 #define CUT_IN_TABLE(table) "HDR1BK" HEX_KEYS ZEROS "01" "04" PAPER_ACCOUNT table
 
+/* PIN 34567 in a format, under the usual settings and under No by name. */
+#define IN_FORMAT(settings, format, block) settings, GOOD_WITH(block), TEXT(WITH_FORMAT(format))
+#define DONE 0, 0, NOWHERE, TEXT("HDR1BL009247FFFFFFFF")
+#define ALLOWED(format, block) \
+	{ "request 5, usual: " format, IN_FORMAT(USUAL, format, block), DONE }, \
+	{ "request 5, No: " format, IN_FORMAT(UNRESTRICTED, format, block), DONE }
+#define NOT_ALLOWED(format, block) \
+	{ "request 5, usual: " format, IN_FORMAT(USUAL, format, block), \
+		69, 69, AT(91, 5), TEXT("HDR1BL69") }, \
+	{ "request 5, No: " format, IN_FORMAT(UNRESTRICTED, format, block), DONE }
+
 static const struct exchange exchanges[] = {
 	{ "paper, the exchange that is run", USUAL, GOOD, TEXT(COMMAND),
 		0, 0, NOWHERE, TEXT("HDR1BL009247FFFFFFFF") },
@@ -48,6 +59,10 @@ static const struct exchange exchanges[] = {
 		69, 69, AT(91, 5), TEXT("HDR1BL69") },
 	{ "paper, format: 01 restricted", RESTRICTED, GOOD, TEXT(COMMAND),
 		0, 0, NOWHERE, TEXT("HDR1BL009247FFFFFFFF") },
+
+	ALLOWED("01", "0534167FFFEDCBA9"), ALLOWED("47", "3534167AAAB89EFC"),
+	NOT_ALLOWED("03", "34567FFFFFFFFFFF"), NOT_ALLOWED("05", "1534567000000000"),
+	NOT_ALLOWED("34", "2534567FFFFFFFFF"), NOT_ALLOWED("35", "2534167FFFEDCBA9"),
 
 	{ "request 2, BK: the instructor's block", UNRESTRICTED, GOOD_WITH(instructors_block),
 		TEXT(WITH_FORMAT("03")), 0, 20, NOWHERE, TEXT("HDR1BL20") },

@@ -1,8 +1,10 @@
 /*
  * Blocks: each printed block is written and read back, and translated into
- * every other that is printed for its PIN and account. Those that the paper or
- * the second request of document 02 has refused are read and translated.
+ * every other that is printed for its PIN and account, under No and under the
+ * usual settings. Those that the paper or the second request of document 02 has
+ * refused are read and translated.
  */
+#include <stdbool.h>
 #include <stdio.h>
 #include <string.h>
 
@@ -114,28 +116,45 @@ static void refuse_translation(const struct refused *r)
 	hold_refused("translated", r->source, reply, out, r->number);
 }
 
-/* Two printed blocks of one PIN and one account are translations of each
- * other. */
-static void translate_vector(const struct vector *from, const struct vector *to)
+/* Two printed blocks of one PIN and one account are translations of each other,
+ * where the settings allow it. */
+static void translate_vector(qg_settings settings, const struct vector *from,
+	const struct vector *to, bool allowed)
 {
 	uint8_t read[BLOCK], written[BLOCK], out[LENT];
 	char deed[DEED];
 
-	snprintf(deed, sizeof deed, "translated to format %02u", (unsigned)to->format);
+	snprintf(deed, sizeof deed, "translated to format %02u, restricted %u",
+		(unsigned)to->format, (unsigned)settings.restricted);
 	block_of(from->block, read);
 	block_of(to->block, written);
 	untouched(out);
-	qg_reply reply = qg_translate(unrestricted, from->format, to->format, read, BLOCK,
+	qg_reply reply = qg_translate(settings, from->format, to->format, read, BLOCK,
 		characters(from->account), ACCOUNT, zero_fill, BLOCK, out, LENT);
-	hold(deed, from->source, reply, out, 0, written, BLOCK);
+	if (allowed)
+		hold(deed, from->source, reply, out, 0, written, BLOCK);
+	else
+		hold_refused(deed, from->source, reply, out, 69);
+}
+
+/* "Restricted: 05 to 01, 47, 05; 01 and 47 to 01, 47; every other built pair is
+ * 69." */
+static bool is_restricted_pair(uint32_t from, uint32_t to)
+{
+	bool to_01_or_47 = to == 1 || to == 47;
+
+	return from == 5 ? to_01_or_47 || to == 5 : (from == 1 || from == 47) && to_01_or_47;
 }
 
 static void translate_to_all(const struct vector *from)
 {
 	for (size_t i = 0; i < sizeof vectors / sizeof vectors[0]; i++)
 		if (strcmp(from->pin, vectors[i].pin) == 0 &&
-			strcmp(from->account, vectors[i].account) == 0)
-			translate_vector(from, &vectors[i]);
+			strcmp(from->account, vectors[i].account) == 0) {
+			translate_vector(unrestricted, from, &vectors[i], true);
+			translate_vector(usual, from, &vectors[i],
+				is_restricted_pair(from->format, vectors[i].format));
+		}
 }
 
 void block_vectors(void)

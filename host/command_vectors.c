@@ -154,10 +154,10 @@ static void lengthen(void)
 static void give_usual(void)
 {
 	qg_settings got = qg_usual();
-	uint8_t same = got.header == 4 && got.restricted == 0 && got.variable == 0;
+	uint8_t same = got.header == 4 && got.restricted == 1 && got.variable == 0;
 	qg_reply reply = { .number = same ? 0 : 1 };
 
-	hold_verdict("usual settings", "paper, settings", reply, 0);
+	hold_verdict("usual settings", "paper, settings, and request 5", reply, 0);
 }
 
 void command_vectors(void)

@@ -23,8 +23,9 @@
 #define DEED 64
 
 /* The usual settings with a header's length and variable length or not; and
- * restricted formats by name, Yes or No. */
-#define USUAL_WITH(header, variable) { header, 0, variable }
+ * restricted formats by name, Yes or No. The paper's usual is No; request 5 made
+ * it Yes. */
+#define USUAL_WITH(header, variable) { header, 1, variable }
 #define USUAL USUAL_WITH(4, 0)
 #define VARIABLE USUAL_WITH(4, 1)
 #define RESTRICTED { 4, 1, 0 }

@@ -122,8 +122,9 @@ extern "C" {
  *   header       length of a command's header in bytes, 0 to 16; usual 4. A
  *                value over 16 is 902 where a command is judged. No call below
  *                the command level reads it.
- *   restricted   restricted formats; usual No. Of the commands only BK goes by
- *                it, and below the command level only qg_translate reads it.
+ *   restricted   restricted formats; usual Yes. Of the commands only BK goes by
+ *                it: it takes 01 and 47, or with No all six. Below the command
+ *                level only qg_translate reads it.
  *   variable     variable length offset; usual No. All three commands go by
  *                it. Below the command level only the four calls that take a
  *                check length read it.
@@ -166,8 +167,18 @@ typedef struct {
 } qg_reply;
 
 /*
- * The usual settings: header 4, restricted 0, variable 0. The call takes
+ * The usual settings: header 4, restricted 1, variable 0. The call takes
  * nothing, judges nothing and writes nothing.
+ *
+ * Before version 0.3.0 `restricted` was 0 here. A server whose hosts send BK
+ * with format 03, 05, 34 or 35, or that translates a pair that is not on the
+ * restricted list of qg_translate, now asks for No by name:
+ *
+ *    qg_settings settings = qg_usual();
+ *    settings.restricted = 0;
+ *
+ * Without that both answer 69, BK at field 5. No other answer of any call is
+ * touched.
  */
 qg_settings qg_usual(void);
 

@@ -1,11 +1,12 @@
--- "Settings: header length 0 to 16 (usual 4); restricted formats, usual No; variable length offset, usual No."
+-- "Settings: header length 0 to 16 (usual 4); restricted formats, usual No; variable length offset, usual No." Request 5 of document 02
+-- made the second Yes: "the setting's default turns from No to Yes".
 use Prim.Native.Nat.{ℕ}
-use mathlib.Core.Bool.{Bool, false}
+use mathlib.Core.Bool.{Bool, true, false}
 use Rattle.settings.specs.declared.Settings.{Settings}
 
 -- the usual settings
 abbrev pub usually : Settings
-usually = record { header = 4; restricted = false; variable = false }
+usually = record { header = 4; restricted = true; variable = false }
 
 -- the greatest header length
 abbrev pub longestHeader : ℕ

@@ -13,9 +13,9 @@ impl Settings {
     pub const LONGEST_HEADER: usize = 16;
 
     pub const USUAL_HEADER: usize = 4;
-    // "restricted formats, usual No; variable length offset, usual No"
-    pub const USUAL_RESTRICTED: bool = false;
-
+    // "the setting's default turns from No to Yes"
+    pub const USUAL_RESTRICTED: bool = true;
+    // "variable length offset, usual No"
     pub const USUAL_VARIABLE: bool = false;
 
     pub fn usual() -> Self
