@@ -1,5 +1,5 @@
-//! A second reading of the paper `01-scope`, and of the first, the second and the fourth request
-//! of `02-change-requests`, written without sight of the product.
+//! A second reading of the paper `01-scope`, and of the first, the second, the fourth and the
+//! fifth request of `02-change-requests`, written without sight of the product.
 //!
 //! Every call takes what the matching call of the C face takes: numbers, byte runs and lent
 //! output. It answers with a [`Reply`], and it allocates nothing.

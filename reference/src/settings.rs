@@ -12,9 +12,19 @@ impl Settings {
     pub const HEADER_LIMIT: usize = 16;
     pub const USUAL_HEADER: usize = 4;
 
-    /// Usual values: a header of 4, restricted formats No, variable length offset No.
+    /// The paper: "restricted formats, usual No", which request §5 has changed: "the setting's
+    /// default turns from No to Yes".
+    pub const USUAL_RESTRICTED: bool = true;
+
+    /// The paper: "variable length offset, usual No".
+    pub const USUAL_VARIABLE: bool = false;
+
     pub fn usual() -> Settings {
-        Settings { header: Settings::USUAL_HEADER, restricted: false, variable: false }
+        Settings {
+            header: Settings::USUAL_HEADER,
+            restricted: Settings::USUAL_RESTRICTED,
+            variable: Settings::USUAL_VARIABLE,
+        }
     }
 
     /// A flag of the C face is a byte: 0 is No, every other value Yes.

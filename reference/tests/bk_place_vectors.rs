@@ -4,7 +4,7 @@ mod common;
 
 use common::bk::*;
 use common::command::{answered, answered_with, Command, P2, P9};
-use common::{at, bytes, done, refused, unrestricted};
+use common::{at, bytes, done, refused, restricted, unrestricted};
 use reference::{answer, ask, usual, Settings};
 
 /// Where the fields of the paper's run begin, with their numbers: a header of 4 and a code of 2,
@@ -67,12 +67,15 @@ fn each_optional_field() {
     assert_eq!(told(OPTIONS, b";00%09\x19\x19"), (15, END + 6, 12));
 }
 
-/// "BK allows all six, or restricted only 01 and 47": a fault of the format's field.
+/// "BK allows all six, or restricted only 01 and 47": a fault of the format's field, and by request
+/// §5 a usual one.
 #[test]
 fn restricted_formats() {
-    let restricted = Settings { restricted: true, ..usual() };
-    assert_eq!(of_the_paper().with(FORMAT, b"34").told(restricted), (69, 91, 5));
-    assert_eq!(of_the_paper().with(FORMAT, b"48").told(restricted), (69, 91, 5));
+    for settings in [usual(), restricted()] {
+        for format in [b"03", b"05", b"34", b"35", b"48"] {
+            assert_eq!(of_the_paper().with(FORMAT, format).told(settings), (69, 91, 5));
+        }
+    }
 }
 
 /// A key field begins at its letter. Two key blocks of 17 characters stand at 9 and 26.

@@ -3,8 +3,8 @@
 mod common;
 
 use common::{
-    bytes, digits, done, refused, unrestricted, ACCOUNT, CLEAN_03, NO_FILL, RUBBISH_03, SHORT_03,
-    UNTOUCHED,
+    bytes, digits, done, refused, restricted, unrestricted, ACCOUNT, BLOCKS, CLEAN_03, NO_FILL,
+    RUBBISH_03, SHORT_03, UNTOUCHED,
 };
 use reference::{read_block, translate, write_block, Reply, Settings};
 
@@ -274,19 +274,28 @@ fn translation_judges_formats_first() {
     }
 }
 
-/// "Restricted: 05 to 01, 47, 05; 01 and 47 to 01, 47; every other built pair is 69."
+/// PIN 34567 from every format into every one. A pair that is allowed gives the block of the format
+/// that is written; any other is 69 and writes nothing.
+fn assert_pairs(settings: Settings, is_allowed: impl Fn(u32, u32) -> bool) {
+    for ((from, block), (to, made)) in BLOCKS.iter().flat_map(|from| BLOCKS.map(|to| (*from, to))) {
+        let mut out = vec![UNTOUCHED; 8];
+        let reply = translate(settings, from, to, &bytes(block), ACCOUNT, NO_FILL, &mut out);
+        let expected = if is_allowed(from, to) {
+            (done(8), bytes(made))
+        } else {
+            (refused(69), vec![UNTOUCHED; 8])
+        };
+        assert_eq!((reply, out), expected, "{from} to {to}");
+    }
+}
+
+/// "Restricted: 05 to 01, 47, 05; 01 and 47 to 01, 47; every other built pair is 69. Unrestricted:
+/// all pairs of the six." Request §5 makes restricted the usual.
 #[test]
 fn restricted_pairs() {
-    let built = [1, 3, 5, 34, 35, 47];
     let allowed = [(5, 1), (5, 47), (5, 5), (1, 1), (1, 47), (47, 1), (47, 47)];
-    for (from, to) in built.iter().flat_map(|from| built.map(|to| (*from, to))) {
-        let mut block = [0; 8];
-        assert_eq!(write_block(from, &[1; 4], ACCOUNT, NO_FILL, &mut block), done(8));
-        let settings = Settings { restricted: true, ..Settings::usual() };
-        let reply = translate(settings, from, to, &block, ACCOUNT, NO_FILL, &mut [0; 8]);
-        let expected = if allowed.contains(&(from, to)) { done(8) } else { refused(69) };
-        assert_eq!(reply, expected, "{from} to {to}");
-        let reply = translate(unrestricted(), from, to, &block, ACCOUNT, NO_FILL, &mut [0; 8]);
-        assert_eq!(reply, done(8), "{from} to {to}");
+    for settings in [Settings::usual(), restricted()] {
+        assert_pairs(settings, |from, to| allowed.contains(&(from, to)));
     }
+    assert_pairs(unrestricted(), |_, _| true);
 }

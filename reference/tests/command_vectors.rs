@@ -4,26 +4,32 @@ mod common;
 
 use common::bk::*;
 use common::command::{answered, P2, P9};
-use common::{at, bytes, done, refused, unrestricted, CLEAN_03, RUBBISH_03, SHORT_03, UNTOUCHED};
+use common::{
+    at, bytes, done, refused, restricted, unrestricted, BLOCKS, CLEAN_03, RUBBISH_03, SHORT_03,
+    UNTOUCHED,
+};
 use reference::{answer, ask, usual, Settings};
 
-/// "answers `HDR1BL009247FFFFFFFF`: header, response code, 00, offset."
+/// "answers `HDR1BL009247FFFFFFFF`: header, response code, 00, offset." Format 01 is allowed under
+/// either setting, so that request §5 changes nothing here.
 #[test]
 fn the_run_of_the_paper() {
-    let (reply, response) = of_the_paper().answered(Settings::usual());
-    assert_eq!(reply, done(20));
-    assert_eq!(response, b"HDR1BL009247FFFFFFFF");
-    let mut out = [UNTOUCHED; 9];
-    assert_eq!(ask(Settings::usual(), &of_the_paper().bytes(), &mut out), done(8));
-    assert_eq!(out[..8], bytes("01 23 45 67 89 A2 34 56"));
-    assert_eq!(out[8], UNTOUCHED);
+    for settings in [restricted(), unrestricted()] {
+        let (reply, response) = of_the_paper().answered(settings);
+        assert_eq!(reply, done(20));
+        assert_eq!(response, b"HDR1BL009247FFFFFFFF");
+        let mut out = [UNTOUCHED; 9];
+        assert_eq!(ask(settings, &of_the_paper().bytes(), &mut out), done(8));
+        assert_eq!(out[..8], bytes("01 23 45 67 89 A2 34 56"));
+        assert_eq!(out[8], UNTOUCHED);
+    }
 }
 
 /// "header length 0 to 16 (usual 4); restricted formats, usual No; variable length offset,
-/// usual No".
+/// usual No". Request §5 has changed the second: "the setting's default turns from No to Yes".
 #[test]
 fn usual_settings() {
-    assert_eq!(usual(), Settings { header: 4, restricted: false, variable: false });
+    assert_eq!(usual(), Settings { header: 4, restricted: true, variable: false });
 }
 
 #[test]
@@ -305,16 +311,30 @@ fn slices() {
     }
 }
 
-/// "BK allows all six, or restricted only 01 and 47."
+/// PIN 34567 in every format. One that is allowed gives the offset of the paper's run; any other is
+/// 69 by both calls, at field 5, and no more than that number is written.
+fn assert_formats(settings: Settings, allowed: &[u32]) {
+    for (format, block) in BLOCKS {
+        let command = of_the_paper().with(FORMAT, format!("{format:02}").as_bytes()).bytes();
+        let mut out = [UNTOUCHED; 8];
+        let asked = ask(settings, &command, &mut out);
+        let (reply, response) = answered(settings, [true, true], &command, &bytes(block));
+        if allowed.contains(&format) {
+            assert_eq!((asked, reply), (done(8), done(20)), "format {format}");
+            assert_eq!(response, b"HDR1BL009247FFFFFFFF");
+        } else {
+            assert_eq!((asked, reply), (at(91, 5, 69, 0), at(91, 5, 69, 8)), "format {format}");
+            assert_eq!((out, &response[..]), ([UNTOUCHED; 8], &b"HDR1BL69"[..]));
+        }
+    }
+}
+
+/// "BK allows all six, or restricted only 01 and 47." Request §5 makes restricted the usual.
 #[test]
 fn restricted_formats() {
-    let restricted = Settings { restricted: true, ..usual() };
-    for (code, number) in [("01", 0), ("47", 20), ("03", 69), ("05", 69), ("34", 69), ("35", 69)] {
-        let command = of_the_paper().with(FORMAT, code.as_bytes());
-        assert_eq!(command.answered(restricted).0.number, number);
-        let asked = ask(restricted, &command.bytes(), &mut [0; 8]).number;
-        assert_eq!(asked, if number == 69 { 69 } else { 0 });
-    }
+    assert_formats(usual(), &[1, 47]);
+    assert_formats(restricted(), &[1, 47]);
+    assert_formats(unrestricted(), &[1, 3, 5, 34, 35, 47]);
 }
 
 /// Variable length: five digits of offset whatever the check length says.

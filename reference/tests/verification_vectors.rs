@@ -5,12 +5,11 @@ mod common;
 
 use common::command::{answered, answered_with, Command, P2, P9};
 use common::verification::*;
-use common::{at, bytes, done, refused, unrestricted, CLEAN_03, RUBBISH_03, SHORT_03, UNTOUCHED};
+use common::{
+    at, bytes, done, refused, restricted, unrestricted, BLOCKS, CLEAN_03, RUBBISH_03, SHORT_03,
+    UNTOUCHED,
+};
 use reference::{answer, ask, usual, Settings};
-
-fn restricted() -> Settings {
-    Settings { restricted: true, ..usual() }
-}
 
 fn variable() -> Settings {
     Settings { variable: true, ..usual() }
@@ -133,21 +132,13 @@ fn longer_pins() {
     assert_eq!(number(twelve, b"04", b"9012FFFFFFFF"), 0);
 }
 
-/// P1 to P5 and source 000's block of format 34: all are PIN 34567, and every format is read
-/// under either setting.
+/// PIN 34567 in every format: all are read under either setting.
 #[test]
 fn formats_are_not_restricted() {
-    for (format, block) in [
-        ("01", P2),
-        ("03", "34 56 7F FF FF FF FF FF"),
-        ("05", "15 34 56 70 00 00 00 00"),
-        ("34", "25 34 56 7F FF FF FF FF"),
-        ("35", "25 34 16 7F FF ED CB A9"),
-        ("47", "35 34 16 7A AA B8 9E FC"),
-    ] {
+    for (format, block) in BLOCKS {
         for settings in [unrestricted(), restricted()] {
             for command in both() {
-                let command = command.with(FORMAT, format.as_bytes()).bytes();
+                let command = command.with(FORMAT, format!("{format:02}").as_bytes()).bytes();
                 assert_eq!(ask(settings, &command, &mut [0; 8]), done(8));
                 let (reply, _) = answered(settings, [true, true], &command, &bytes(block));
                 assert_eq!(reply, done(8), "format {format}");

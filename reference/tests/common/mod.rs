@@ -20,11 +20,27 @@ pub const RUBBISH_03: &str = "12 34 FF 99 00 00 00 00";
 pub const CLEAN_03: &str = "12 34 FF FF FF FF FF FF";
 pub const SHORT_03: &str = "12 3F 99 00 00 00 00 00";
 
+/// PIN 34567 and account 400000123456 in each format, with fill bytes 00: P2, P5, P4, source 000's
+/// block of format 34, P1 and P3.
+pub const BLOCKS: [(u32, &str); 6] = [
+    (1, "05 34 16 7F FF ED CB A9"),
+    (3, "34 56 7F FF FF FF FF FF"),
+    (5, "15 34 56 70 00 00 00 00"),
+    (34, "25 34 56 7F FF FF FF FF"),
+    (35, "25 34 16 7F FF ED CB A9"),
+    (47, "35 34 16 7A AA B8 9E FC"),
+];
+
 /// Restricted formats No, asked for by name: where BK is sent a format, or translation a pair, that
 /// it allows under No alone; where 69 must come of a format that is not built, since under Yes BK
 /// answers it to all but 01 and 47; and where both settings are played.
 pub fn unrestricted() -> Settings {
     Settings { restricted: false, ..Settings::usual() }
+}
+
+/// Yes by name: what is said of it holds whatever is usual.
+pub fn restricted() -> Settings {
+    Settings { restricted: true, ..Settings::usual() }
 }
 
 /// Hex pairs, with or without spaces between them, as bytes.
