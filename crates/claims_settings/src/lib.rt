@@ -1,1 +1,1 @@
-// What the setting of restricted formats touches.
+// What the setting of restricted formats touches, and what the ATM history course meets under each.
