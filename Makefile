@@ -1,5 +1,5 @@
 # Short names for the steps of the gate. What each does stands in .ci/step.
-.PHONY: check setup prove archive host bench-compiles vectors compare compare-offsets compare-commands compare-verifications lessons lab example install installed uninstall claims reports clean-c bench soak header reference fmt clean
+.PHONY: check setup prove archive host bench-compiles vectors compare compare-offsets compare-commands compare-verifications lessons lessons-either lab courses example install installed uninstall claims reports clean-c bench soak header reference fmt clean
 
 check:
 	.ci/run
@@ -13,13 +13,13 @@ setup:
 archive header reference bench-compiles: setup
 	.ci/step $@
 
-claims reports:
+claims reports courses:
 	.ci/step $@
 
 host example installed: archive
 	.ci/step $@
 
-vectors compare compare-offsets compare-commands compare-verifications lessons lab clean-c: host
+vectors compare compare-offsets compare-commands compare-verifications lessons lessons-either lab clean-c: host
 	.ci/step $@
 
 # outside the gate; COUNT and SEED may be given: make soak COUNT=2800000 SEED=1
