@@ -142,8 +142,8 @@ assumptions-met = (
   alike-runs,
   unlike-runs,
   (
-    (meets (restrictedTo usually false) format34 4 [] (none F34) runP9In34 runP10In34 pinP9 pinP10 (refl, refl, refl, refl, refl) (refl, refl, refl, refl, refl) (refl, refl, refl, refl) (differ (pinP9 .0) (pinP10 .0) refl refl), refl),
-    (meets (restrictedTo usually false) format34 4 [] (none F34) runP9In34 runOtherIn34 pinP9 pinOther (refl, refl, refl, refl, refl) (refl, refl, refl, refl, refl) (refl, refl, refl, refl) (differ (pinP9 .0) (pinOther .0) refl refl), λ e. omega (arith, ap (λ (x : Said ℕ). getD (x .written) 11 0) e)),
+    (meets _ format34 4 [] (none F34) runP9In34 runP10In34 pinP9 pinP10 (refl, refl, refl, refl, refl) (refl, refl, refl, refl, refl) (refl, refl, refl, refl) (differ (pinP9 .0) (pinP10 .0) refl refl), refl),
+    (meets _ format34 4 [] (none F34) runP9In34 runOtherIn34 pinP9 pinOther (refl, refl, refl, refl, refl) (refl, refl, refl, refl, refl) (refl, refl, refl, refl) (differ (pinP9 .0) (pinOther .0) refl refl), λ e. omega (arith, ap (λ (x : Said ℕ). getD (x .written) 11 0) e)),
   ),
   record {
     met = meets usually format01 4 [] (none F01) runP9 runLastFour pinP9 pinLastFour (refl, refl, refl, refl, refl) (refl, refl, refl, refl, refl) (refl, refl, refl, refl) (differ (pinP9 .0) (pinLastFour .0) refl refl);

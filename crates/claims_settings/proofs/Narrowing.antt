@@ -1,17 +1,19 @@
 -- The setting is looked at where a format is judged, and what stands behind that goes on from there.
 -- Assumes nothing.
 use Prim.Native.Nat.{ℕ, _+_}
-use mathlib.Core.Path.{_≡_, refl, sym, ap, _∙_, subst}
+use native.Mathlib.Omega.{arith}
+use mathlib.Core.Path.{_≡_, refl, sym, ap, _∙_}
 use mathlib.Core.Logic.{_⊎_, inl, inr}
 use mathlib.Core.List.{List}
 use mathlib.Core.Bool.{Bool, true, false, false≢true}
 use lib.ListN.{length, take, drop}
 use lib.Dec.{leb}
-use lib.Seq.{take-at}
+use borrow.Author.Tests.{le-leb}
+use Rattle.alphabet.specs.Alphabet.{allOf}
 use Rattle.alphabet.specs.declared.Class.the-variants.{CapitalHex}
 use Rattle.numbers.specs.Numbers.{Judged, Outcome, done, refused, andThen, unless}
 use Rattle.numbers.specs.declared.Refusal.{Refusal}
-use Rattle.numbers.specs.declared.Refusal.the-variants.{Field15, NotHere69, Room901}
+use Rattle.numbers.specs.declared.Refusal.the-variants.{Field15, NotHere69, Room901, Frame902}
 use Rattle.settings.specs.Settings.{restrictedTo}
 use Rattle.settings.specs.declared.Settings.{Settings}
 use Rattle.codes.specs.Codes as codes
@@ -22,24 +24,26 @@ use Rattle.restriction.specs.Restriction.{restrictedPair}
 use Rattle.pairs.specs.Pairs.{pairOf}
 use Rattle.pins.specs.Pins.{accountOf, sized}
 use Rattle.translation.specs.Translation.{translateBlock}
-use Rattle.frame.specs.Frame.{codeOf}
+use Rattle.frame.specs.Frame.{isFramed, codeOf}
 use Rattle.frame.specs.declared.Code.{Code}
 use Rattle.frame.specs.declared.Code.the-variants.{Bk, Da, Ea, Other}
 use Rattle.fields.specs.Fields.{Found, Stage, read, faulty, fielded, onward, Ruling, ruled, unpointed, heard, run, number}
 use Rattle.fields.specs.declared.Fault.{Fault}
+use Rattle.fields.proofs.Reading.{read-once}
 use Rattle.formatfield.specs.FormatField.{allows, formatField}
 use Rattle.uses.specs.Uses.{pinKey, pvk}
 use Rattle.keyfields.specs.KeyFields.{keys}
+use Rattle.keyfields.specs.declared.Keys.{Keys}
 use Rattle.sealed.specs.Sealed.{sealed}
+use Rattle.sealed.specs.declared.Sealed.{Sealed}
 use Rattle.bkfields.specs.BkFields.{bkFields}
+use Rattle.bkfields.specs.declared.Bk as bk
 use Rattle.bk.specs.Bk.{bkAsk, bkAnswer}
-use Rattle.offsetting.specs.Offsetting.{part}
 use Rattle.responses.specs.Responses.{responding}
 use Rattle.commands.specs.Commands.{askBy, answerBy, opened, asking, commanded, silently, answered, replying}
 use Rattle.texts.specs.Characters.{OneOf}
-use Rattle.texts_data.specs.DataTexts.{formatText}
-use Rattle.texts_data.proofs.Formats.{format-exact}
-use Rattle.claims_settings.specs.Narrowing.{Narrowed, others, NotAllowed, AskNarrowed, AnswerNarrowed, ResponseNarrowed, TranslationNarrowed}
+use Rattle.claims_commands.specs.Runs.{codeIn}
+use Rattle.claims_settings.specs.Narrowing.{others, upToFormat, atFormat, NotAllowed, Narrowed, AskNarrowed, AnswerNarrowed, ResponseNarrowed, TranslationNarrowed}
 
 -- ---- judgements
 
@@ -54,12 +58,12 @@ module _ {Q A B : Type 0} (kind : Q → Type 0) where
   before-narrowed narrow wide next (inl e) = inl (ap (λ (o : Judged Q A). andThen o next) e)
   before-narrowed narrow wide next (inr (q, k, e)) = inr (q, k, ap (λ (o : Judged Q A). andThen o next) e)
 
+-- ---- translation
+
 -- a test that is made under Yes only
 test-narrowed : {A : Type 0} (allowed : Bool) (a : A) → Narrowed {Q = Refusal} (λ q. q ≡ NotHere69) (unless NotHere69 allowed a) (done a)
 test-narrowed true a = inl refl
 test-narrowed false a = inr (NotHere69, refl, refl)
-
--- ---- translation
 
 pair-narrowed : (from to : ℕ) → Narrowed (λ q. q ≡ NotHere69) (pairOf true from to) (pairOf false from to)
 unfolding pairOf
@@ -79,147 +83,198 @@ translation-narrowed from to block account fill room =
     (λ digits. next-narrowed _ (sized 8 fill) _ _
     (λ fs. before-narrowed _ (pairOf true from to) (pairOf false from to) _ (pair-narrowed from to)))))
 
--- ---- fields
+-- ---- the format
+
+-- which formats are not allowed
+other-format : (f : Format) → is01or47 f ≡ false → OneOf f others
+other-format F01 h = absurd (false≢true (sym h))
+other-format F03 h = inl refl
+other-format F05 h = inr (inl refl)
+other-format F34 h = inr (inr (inl refl))
+other-format F35 h = inr (inr (inr (inl refl)))
+other-format F47 h = absurd (false≢true (sym h))
+
+other-back : (f : Format) → OneOf f others → is01or47 f ≡ false
+other-back f (inl e) = ap is01or47 e
+other-back f (inr (inl e)) = ap is01or47 e
+other-back f (inr (inr (inl e))) = ap is01or47 e
+other-back f (inr (inr (inr (inl e)))) = ap is01or47 e
+other-back f (inr (inr (inr (inr z)))) = absurd z
 
 -- under Yes the format's field is that under No, and a test behind it
-format-tested : (cs : List ℕ) → formatField true cs ≡ andThen (formatField false cs) (λ (r : Format × ℕ). unless NotHere69 (is01or47 (r .0)) r)
+abbrev tested : Found Format → Found Format
+tested o = andThen o (λ (r : Format × ℕ). unless NotHere69 (is01or47 (r .0)) r)
+
+format-tested : (cs : List ℕ) → formatField true cs ≡ tested (formatField false cs)
 unfolding formatField
 format-tested cs = by-number (number 0 99 Field15 cs)
   where
-    by-format : (n : ℕ) (o : Outcome Format)
-        → andThen o (λ f. unless NotHere69 (allows true f) (f, n)) ≡ andThen (andThen o (λ f. unless NotHere69 (allows false f) (f, n))) (λ (r : Format × ℕ). unless NotHere69 (is01or47 (r .0)) r)
+    by-format : (n : ℕ) (o : Outcome Format) → andThen o (λ f. unless NotHere69 (allows true f) (f, n)) ≡ tested (andThen o (λ f. unless NotHere69 (allows false f) (f, n)))
     by-format n (done f) = refl
     by-format n (refused q) = refl
 
     by-number : (o : Found ℕ)
         → andThen o (λ code. andThen (codes.formatOf (codes.codeOf (code .0))) (λ f. unless NotHere69 (allows true f) (f, code .1)))
-        ≡ andThen (andThen o (λ code. andThen (codes.formatOf (codes.codeOf (code .0))) (λ f. unless NotHere69 (allows false f) (f, code .1)))) (λ (r : Format × ℕ). unless NotHere69 (is01or47 (r .0)) r)
+        ≡ tested (andThen o (λ code. andThen (codes.formatOf (codes.codeOf (code .0))) (λ f. unless NotHere69 (allows false f) (f, code .1))))
     by-number (done code) = by-format (code .1) (codes.formatOf (codes.codeOf (code .0)))
     by-number (refused q) = refl
 
--- the formats that are not allowed, by their text
-abbrev IsOther : List ℕ → Type 0
-IsOther text = OneOf text others
+-- ---- fields
 
-other-text : (f : Format) → is01or47 f ≡ false → IsOther (formatText f)
-other-text F01 h = absurd (false≢true (sym h))
-other-text F03 h = inl refl
-other-text F05 h = inr (inl refl)
-other-text F34 h = inr (inr (inl refl))
-other-text F35 h = inr (inr (inr (inl refl)))
-other-text F47 h = absurd (false≢true (sym h))
+-- fields with the format among them, under Yes and under No: the same, and what is read is allowed; or another format is read under No, and
+-- under Yes that is the fault
+abbrev Splits : {A : Type 0} → Stage Sealed → Stage A → Stage A → Type 0
+Splits front narrow wide =
+    ((narrow ≡ wide) × ((b : Sealed) (past : ℕ) → front ≡ read b past → is01or47 (b .format) ≡ true))
+    ⊎ ((b : Sealed) × (past : ℕ) × (front ≡ read b past) × (is01or47 (b .format) ≡ false) × (narrow ≡ faulty (atFormat b)))
 
-two-long : (f : Format) → length (formatText f) ≡ 2
-two-long F01 = refl
-two-long F03 = refl
-two-long F05 = refl
-two-long F34 = refl
-two-long F35 = refl
-two-long F47 = refl
+not-read : {A : Type 0} {f : Fault} {b : A} {past : ℕ} → _≡_ {A = Stage A} (faulty f) (read b past) → ⊥
+not-read e = let z : _≡_ {A = ℕ} 0 1 = cc in omega arith
 
-format-narrowed : (s : List ℕ) (at : ℕ)
-    → (formatField true (drop at s) ≡ formatField false (drop at s)) ⊎ ((formatField true (drop at s) ≡ refused NotHere69) × IsOther (part s at 2))
-format-narrowed s at = by-found (formatField false (drop at s)) refl
+-- the stage of PIN block and format
+sealed-splits : (s : List ℕ) (at : ℕ) → Splits (sealed 4 false s at) (sealed 4 true s at) (sealed 4 false s at)
+unfolding sealed run
+sealed-splits s at = by-block (leb 16 (length (drop at s))) (allOf CapitalHex (take 16 (drop at s)))
   where
-    tested : (f : Format) (n : ℕ) (allowed : Bool) → is01or47 f ≡ allowed → formatField false (drop at s) ≡ done (f, n)
-        → formatField true (drop at s) ≡ unless NotHere69 allowed (f, n)
-    tested f n allowed h e =
-        format-tested (drop at s) ∙ ap (λ (o : Found Format). andThen o (λ (r : Format × ℕ). unless NotHere69 (is01or47 (r .0)) r)) e ∙ ap (λ (b : Bool). unless NotHere69 b (f, n)) h
+    -- what the stage comes to, from what was found of the format
+    from : Found Format → Stage Sealed
+    from o = fielded 5 (at + 16) o (λ f next. read (record { block = at; format = f }) next)
 
-    by-test : (f : Format) (n : ℕ) (allowed : Bool) → is01or47 f ≡ allowed → formatField false (drop at s) ≡ done (f, n)
-        → (formatField true (drop at s) ≡ formatField false (drop at s)) ⊎ ((formatField true (drop at s) ≡ refused NotHere69) × IsOther (part s at 2))
-    by-test f n true h e = inl (tested f n true h e ∙ sym e)
-    by-test f n false h e =
-        let o = format-exact false .only (drop at s) f n e in
-        let text : part s at 2 ≡ formatText f = ap (take 2) (o .whole) ∙ take-at (formatText (o .part)) (o .rest) 2 (two-long (o .part)) ∙ ap formatText (sym (o .same)) in
-        inr (tested f n false h e, subst IsOther (sym text) (other-text f h))
+    by-test : (f : Format) (n : ℕ) (allowed : Bool) → is01or47 f ≡ allowed → Splits (from (done (f, n))) (from (tested (done (f, n)))) (from (done (f, n)))
+    by-test f n true h = inl (ap (λ (b : Bool). from (unless NotHere69 b (f, n))) h, λ b past e. ap (λ (b : Sealed). is01or47 (b .format)) (sym (read-once e .0)) ∙ h)
+    by-test f n false h = inr (record { block = at; format = f }, at + 16 + n, refl, h, ap (λ (b : Bool). from (unless NotHere69 b (f, n))) h)
 
-    by-found : (o : Found Format) → formatField false (drop at s) ≡ o
-        → (formatField true (drop at s) ≡ formatField false (drop at s)) ⊎ ((formatField true (drop at s) ≡ refused NotHere69) × IsOther (part s at 2))
-    by-found (done (f, n)) e = by-test f n (is01or47 f) refl e
-    by-found (refused q) e = inl (format-tested (drop at s) ∙ ap (λ (o : Found Format). andThen o (λ (r : Format × ℕ). unless NotHere69 (is01or47 (r .0)) r)) e ∙ sym e)
+    by-found : (o : Found Format) → Splits (from o) (from (tested o)) (from o)
+    by-found (done (f, n)) = by-test f n (is01or47 f) refl
+    by-found (refused q) = inl (refl, λ b past e. absurd (not-read e))
 
--- of a stage
-abbrev StageNarrowed : {A : Type 0} → List ℕ → Stage A → Stage A → Type 0
-StageNarrowed s narrow wide = (narrow ≡ wide) ⊎ ((f : Fault) × NotAllowed s f × (narrow ≡ faulty f))
+    -- from what was found of the PIN block
+    behind : Found ℕ → Bool → Stage Sealed
+    behind o r = fielded 4 at o (λ _ at₅. fielded 5 at₅ (formatField r (drop at₅ s)) (λ f next. read (record { block = at; format = f }) next))
 
-module _ {A B : Type 0} (s : List ℕ) where
-  -- a field before, and field 5 itself
-  field-before : (which at : ℕ) (o : Found A) (narrow wide : A → ℕ → Stage B) → ((a : A) (at : ℕ) → StageNarrowed s (narrow a at) (wide a at)) → StageNarrowed s (fielded which at o narrow) (fielded which at o wide)
-  field-before which at (done r) narrow wide h = h (r .0) (at + r .1)
-  field-before which at (refused q) narrow wide h = inl refl
+    block : Bool → Bool → Found ℕ
+    block long hex = andThen {A = ℕ} (unless Field15 long 16) (λ _. unless Field15 hex (16, 16))
 
-  field-narrowed : (at : ℕ) (narrow wide : Found A) (next : A → ℕ → Stage B) → (narrow ≡ wide) ⊎ ((narrow ≡ refused NotHere69) × IsOther (part s at 2))
-      → StageNarrowed s (fielded 5 at narrow next) (fielded 5 at wide next)
-  field-narrowed at narrow wide next (inl e) = inl (ap (λ (o : Found A). fielded 5 at o next) e)
-  field-narrowed at narrow wide next (inr (e, four)) = inr (record { refusal = NotHere69; field = 5; place = at }, (refl, refl, four), ap (λ (o : Found A). fielded 5 at o next) e)
+    by-block : (long hex : Bool) → Splits (behind (block long hex) false) (behind (block long hex) true) (behind (block long hex) false)
+    by-block true true = rw (format-tested (drop (at + 16) s)) (by-found (formatField false (drop (at + 16) s)))
+    by-block true false = inl (refl, λ b past e. absurd (not-read e))
+    by-block false hex = inl (refl, λ b past e. absurd (not-read e))
 
-  -- a stage before, and the stage itself
-  stage-before : (x : Stage A) (narrow wide : A → ℕ → Stage B) → ((a : A) (at : ℕ) → StageNarrowed s (narrow a at) (wide a at)) → StageNarrowed s (onward x narrow) (onward x wide)
-  stage-before (read a at) narrow wide h = h a at
-  stage-before (faulty f) narrow wide h = inl refl
+-- all fields of a BK
+bk-splits : (s : List ℕ) (at : ℕ) → Splits (upToFormat s at) (bkFields true s at) (bkFields false s at)
+unfolding bkFields
+bk-splits s at = by-keys (keys 1 pinKey pvk s at) _
+  where
+    by-sealed : (narrow wide : Stage Sealed) (next : Sealed → ℕ → Stage bk.Bk) → Splits wide narrow wide → Splits wide (onward narrow next) (onward wide next)
+    by-sealed narrow wide next (inl (e, allowed)) = inl (ap (λ (x : Stage Sealed). onward x next) e, allowed)
+    by-sealed narrow wide next (inr (b, past, r, o, e)) = inr (b, past, r, o, ap (λ (x : Stage Sealed). onward x next) e)
 
-  stage-narrowed : (narrow wide : Stage A) (next : A → ℕ → Stage B) → StageNarrowed s narrow wide → StageNarrowed s (onward narrow next) (onward wide next)
-  stage-narrowed narrow wide next (inl e) = inl (ap (λ (x : Stage A). onward x next) e)
-  stage-narrowed narrow wide next (inr (f, k, e)) = inr (f, k, ap (λ (x : Stage A). onward x next) e)
+    by-keys : (k : Stage Keys) (next : Keys → Sealed → ℕ → Stage bk.Bk)
+        → Splits (onward k (λ _ at₄. sealed 4 false s at₄)) (onward k (λ ks at₄. onward (sealed 4 true s at₄) (next ks))) (onward k (λ ks at₄. onward (sealed 4 false s at₄) (next ks)))
+    by-keys (read ks at₄) next = by-sealed (sealed 4 true s at₄) (sealed 4 false s at₄) (next ks) (sealed-splits s at₄)
+    by-keys (faulty f) next = inl (refl, λ b past e. absurd (not-read e))
 
-ruled-narrowed : {A : Type 0} (s : List ℕ) (narrow wide : Stage A) → StageNarrowed s narrow wide → Narrowed (NotAllowed s) (ruled narrow) (ruled wide)
-ruled-narrowed {A} s narrow wide (inl e) = inl (ap (λ (x : Stage A). ruled x) e)
-ruled-narrowed {A} s narrow wide (inr (f, k, e)) = inr (f, k, ap (λ (x : Stage A). ruled x) e)
-
-bk-narrowed : (s : List ℕ) (at : ℕ) → StageNarrowed s (bkFields true s at) (bkFields false s at)
-unfolding bkFields sealed
-bk-narrowed s at =
-    stage-before s (keys 1 pinKey pvk s at) _ _
-    (λ ks at₄. stage-narrowed s (sealed 4 true s at₄) (sealed 4 false s at₄) _
-    (field-before s 4 at₄ (run CapitalHex Field15 Field15 16 (drop at₄ s)) _ _
-    (λ _ at₅. field-narrowed s at₅ (formatField true (drop at₅ s)) (formatField false (drop at₅ s)) _ (format-narrowed s at₅))))
+-- so where another format is read, Yes refuses
+bk-refuses : (s : List ℕ) (at : ℕ) (b : Sealed) (past : ℕ) → upToFormat s at ≡ read b past → OneOf (b .format) others → bkFields true s at ≡ faulty (atFormat b)
+bk-refuses s at b past r o = by (bk-splits s at)
+  where
+    by : Splits (upToFormat s at) (bkFields true s at) (bkFields false s at) → bkFields true s at ≡ faulty (atFormat b)
+    by (inl (e, allowed)) = absurd (false≢true (sym (other-back (b .format) o) ∙ allowed b past r))
+    by (inr (c, past′, r′, o′, e)) = e ∙ ap (λ (d : Sealed). faulty (atFormat d)) (read-once (sym r′ ∙ r) .0)
 
 -- ---- the calls
 
 module _ (settings : Settings) (s : List ℕ) where
-  asks-narrowed : (c : Code) (at : ℕ) → Narrowed (NotAllowed s) (askBy c (restrictedTo settings true) s at) (askBy c (restrictedTo settings false) s at)
+  -- the fields of a BK that has a frame
+  fields-narrowed : isFramed (settings .header) s ≡ true → codeIn settings s ≡ Bk
+      → Narrowed (NotAllowed settings s) (ruled (bkFields true s (settings .header + 2))) (ruled (bkFields false s (settings .header + 2)))
+  fields-narrowed framed coded = by (bk-splits s (settings .header + 2))
+    where
+      by : Splits (upToFormat s (settings .header + 2)) (bkFields true s (settings .header + 2)) (bkFields false s (settings .header + 2))
+          → Narrowed (NotAllowed settings s) (ruled (bkFields true s (settings .header + 2))) (ruled (bkFields false s (settings .header + 2)))
+      by (inl (e, allowed)) = inl (ap (λ (x : Stage bk.Bk). ruled x) e)
+      by (inr (b, past, r, o, e)) = inr (
+        atFormat b,
+        record { framed = framed; coded = coded; sealed = b; past = past; reads = r; other = other-format (b .format) o; fault = refl },
+        ap (λ (x : Stage bk.Bk). ruled x) e,
+      )
+
+  -- a command by its code
+  asks-narrowed : isFramed (settings .header) s ≡ true → (c : Code) → codeIn settings s ≡ c
+      → Narrowed (NotAllowed settings s) (askBy c (restrictedTo settings true) s (settings .header + 2)) (askBy c (restrictedTo settings false) s (settings .header + 2))
   unfolding askBy bkAsk
-  asks-narrowed Bk at = before-narrowed _ (ruled (bkFields true s at)) (ruled (bkFields false s at)) _ (ruled-narrowed s (bkFields true s at) (bkFields false s at) (bk-narrowed s at))
-  asks-narrowed Da at = inl refl
-  asks-narrowed Ea at = inl refl
-  asks-narrowed Other at = inl refl
+  asks-narrowed framed Bk coded =
+      before-narrowed _ (ruled (bkFields true s (settings .header + 2))) (ruled (bkFields false s (settings .header + 2))) _ (fields-narrowed framed coded)
+  asks-narrowed framed Da coded = inl refl
+  asks-narrowed framed Ea coded = inl refl
+  asks-narrowed framed Other coded = inl refl
+
+  -- behind room and frame
+  opened-narrowed : {A : Type 0} (least room : ℕ) (next : Bool → ℕ → Ruling A)
+      → (isFramed (settings .header) s ≡ true → Narrowed (NotAllowed settings s) (next true (settings .header)) (next false (settings .header)))
+      → Narrowed (NotAllowed settings s) (andThen (unpointed (opened least room (settings .header) s)) (next true)) (andThen (unpointed (opened least room (settings .header) s)) (next false))
+  opened-narrowed least room next h = by (leb least room) (isFramed (settings .header) s) refl
+    where
+      by : (roomy framed : Bool) → isFramed (settings .header) s ≡ framed
+          → Narrowed (NotAllowed settings s)
+          (andThen (unpointed (andThen (unless Room901 roomy room) (λ _. unless Frame902 framed (settings .header)))) (next true))
+          (andThen (unpointed (andThen (unless Room901 roomy room) (λ _. unless Frame902 framed (settings .header)))) (next false))
+      by true true e = h e
+      by true false e = inl refl
+      by false framed e = inl refl
 
   module _ (g h : Bool) (block enciphered : List ℕ) where
-    answers-narrowed : (c : Code) (at : ℕ)
-        → Narrowed (NotAllowed s) (answerBy c (restrictedTo settings true) g h s at block enciphered) (answerBy c (restrictedTo settings false) g h s at block enciphered)
+    answers-narrowed : isFramed (settings .header) s ≡ true → (c : Code) → codeIn settings s ≡ c
+        → Narrowed (NotAllowed settings s) (answerBy c (restrictedTo settings true) g h s (settings .header + 2) block enciphered)
+        (answerBy c (restrictedTo settings false) g h s (settings .header + 2) block enciphered)
     unfolding answerBy bkAnswer
-    answers-narrowed Bk at = before-narrowed _ (ruled (bkFields true s at)) (ruled (bkFields false s at)) _ (ruled-narrowed s (bkFields true s at) (bkFields false s at) (bk-narrowed s at))
-    answers-narrowed Da at = inl refl
-    answers-narrowed Ea at = inl refl
-    answers-narrowed Other at = inl refl
+    answers-narrowed framed Bk coded =
+        before-narrowed _ (ruled (bkFields true s (settings .header + 2))) (ruled (bkFields false s (settings .header + 2))) _ (fields-narrowed framed coded)
+    answers-narrowed framed Da coded = inl refl
+    answers-narrowed framed Ea coded = inl refl
+    answers-narrowed framed Other coded = inl refl
 
-    commanded-narrowed : (code : ℕ)
-        → Narrowed (NotAllowed s) (commanded (restrictedTo settings true) g h s block enciphered code) (commanded (restrictedTo settings false) g h s block enciphered code)
-    commanded-narrowed code = before-narrowed _ _ _ _ (answers-narrowed (codeOf (drop code s)) (code + 2))
+    commanded-narrowed : isFramed (settings .header) s ≡ true
+        → Narrowed (NotAllowed settings s) (commanded (restrictedTo settings true) g h s block enciphered (settings .header)) (commanded (restrictedTo settings false) g h s block enciphered (settings .header))
+    commanded-narrowed framed =
+        before-narrowed _ (answerBy (codeIn settings s) (restrictedTo settings true) g h s (settings .header + 2) block enciphered)
+        (answerBy (codeIn settings s) (restrictedTo settings false) g h s (settings .header + 2) block enciphered) _ (answers-narrowed framed (codeIn settings s) refl)
+
+  -- the fault of a BK that is not allowed
+  fields-refuse : (f : Fault) → NotAllowed settings s f → bkFields true s (settings .header + 2) ≡ faulty f
+  fields-refuse f n = bk-refuses s (settings .header + 2) (n .sealed) (n .past) (n .reads) (n .other) ∙ ap faulty (sym (n .fault))
 
 pub ask-narrowed : AskNarrowed
-unfolding asking
-ask-narrowed settings s room = next-narrowed _ (unpointed (opened 8 room (settings .header) s)) _ _ (λ code. asks-narrowed settings s (codeOf (drop code s)) (code + 2))
+unfolding asking askBy bkAsk
+ask-narrowed settings s room = (
+  opened-narrowed settings s 8 room (λ r code. askBy (codeOf (drop code s)) (restrictedTo settings r) s (code + 2)) (λ framed. asks-narrowed settings s framed (codeIn settings s) refl),
+  λ f roomy n. rw (le-leb 8 room roomy, n .framed, n .coded, fields-refuse settings s f n) refl,
+)
 
 pub answer-narrowed : AnswerNarrowed
-unfolding replying
-answer-narrowed settings g h s block enciphered room = next-narrowed _ (unpointed (opened 65 room (settings .header) s)) _ _ (commanded-narrowed settings s g h block enciphered)
-
--- what the host hears of a command that has a frame
-response-narrowed-in : (header : ℕ) (s : List ℕ) (narrow wide : Ruling (List ℕ)) → Narrowed (NotAllowed s) narrow wide
-    → (responding header s (heard narrow) ≡ responding header s (heard wide)) ⊎ (responding header s (heard narrow) ≡ responding header s (refused NotHere69))
-response-narrowed-in header s narrow wide (inl e) = inl (ap (λ (o : Ruling (List ℕ)). responding header s (heard o)) e)
-response-narrowed-in header s narrow wide (inr (f, k, e)) = inr (ap (λ (o : Ruling (List ℕ)). responding header s (heard o)) e ∙ ap (λ (q : Refusal). responding header s (refused q)) (k .0))
+unfolding replying answerBy bkAnswer
+answer-narrowed settings g h s block enciphered room = (
+  opened-narrowed settings s 65 room (λ r code. commanded (restrictedTo settings r) g h s block enciphered code) (commanded-narrowed settings s g h block enciphered),
+  λ f roomy n. rw (le-leb 65 room roomy, n .framed, n .coded, fields-refuse settings s f n) refl,
+)
 
 pub response-narrowed : ResponseNarrowed
 unfolding answered
-response-narrowed settings g h s block enciphered room = by-frame (opened 65 room (settings .header) s)
+response-narrowed settings g h s block enciphered room = by (leb 65 room) (isFramed (settings .header) s) refl
   where
-    by-frame : (o : Outcome ℕ)
-        → (silently (andThen o (λ code. done (responding (settings .header) s (heard (commanded (restrictedTo settings true) g h s block enciphered code)))))
-        ≡ silently (andThen o (λ code. done (responding (settings .header) s (heard (commanded (restrictedTo settings false) g h s block enciphered code))))))
-        ⊎ (silently (andThen o (λ code. done (responding (settings .header) s (heard (commanded (restrictedTo settings true) g h s block enciphered code)))))
-        ≡ responding (settings .header) s (refused NotHere69))
-    by-frame (done code) = response-narrowed-in (settings .header) s _ _ (commanded-narrowed settings s g h block enciphered code)
-    by-frame (refused q) = inl refl
+    heard-narrowed : (narrow wide : Ruling (List ℕ)) → Narrowed (NotAllowed settings s) narrow wide
+        → (responding (settings .header) s (heard narrow) ≡ responding (settings .header) s (heard wide))
+        ⊎ ((f : Fault) × NotAllowed settings s f × (responding (settings .header) s (heard narrow) ≡ responding (settings .header) s (refused NotHere69)))
+    heard-narrowed narrow wide (inl e) = inl (ap (λ (o : Ruling (List ℕ)). responding (settings .header) s (heard o)) e)
+    heard-narrowed narrow wide (inr (f, n, e)) =
+        inr (f, n, ap (λ (o : Ruling (List ℕ)). responding (settings .header) s (heard o)) e ∙ ap (λ (q : Fault). responding (settings .header) s (refused (q .refusal))) (n .fault))
+
+    by : (roomy framed : Bool) → isFramed (settings .header) s ≡ framed
+        → (silently (andThen (andThen (unless Room901 roomy room) (λ _. unless Frame902 framed (settings .header))) (λ code. done (responding (settings .header) s (heard (commanded (restrictedTo settings true) g h s block enciphered code)))))
+        ≡ silently (andThen (andThen (unless Room901 roomy room) (λ _. unless Frame902 framed (settings .header))) (λ code. done (responding (settings .header) s (heard (commanded (restrictedTo settings false) g h s block enciphered code))))))
+        ⊎ ((f : Fault) × NotAllowed settings s f
+        × (silently (andThen (andThen (unless Room901 roomy room) (λ _. unless Frame902 framed (settings .header))) (λ code. done (responding (settings .header) s (heard (commanded (restrictedTo settings true) g h s block enciphered code)))))
+        ≡ responding (settings .header) s (refused NotHere69)))
+    by true true e = heard-narrowed _ _ (commanded-narrowed settings s g h block enciphered e)
+    by true false e = inl refl
+    by false framed e = inl refl

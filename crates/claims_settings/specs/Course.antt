@@ -13,6 +13,7 @@ use Rattle.texts.specs.Characters.{printed}
 use Rattle.claims_blocks.specs.Figures.{usualAccount, blockP1}
 use Rattle.claims_offsets.specs.Figures.{blockP2, encipheredP9}
 use Rattle.claims_figures.specs.Figures.{says}
+use Rattle.claims_commands.specs.Witnesses.{format34, runP9In34}
 use Rattle.claims_commands.specs.Cores.{blockP12}
 use Rattle.claims_refusals.specs.Parts.{but, exchange}
 use Rattle.claims_refusals.specs.Refusals.{KeyBox, keyBox, Calls}
@@ -24,12 +25,12 @@ pub record Taught : Type 0 where
   pub digits : List ℕ
   pub block : List ℕ
 
--- P5's, 34's, P1's
+-- P5's, that of format 34, P1's
 abbrev pub taught03 : Taught
 taught03 = record { code = 3; digits = printed "03"; block = 0x34 ∷ 0x56 ∷ 0x7F ∷ 0xFF ∷ 0xFF ∷ 0xFF ∷ 0xFF ∷ 0xFF ∷ [] }
 
 abbrev pub taught34 : Taught
-taught34 = record { code = 34; digits = printed "34"; block = 0x25 ∷ 0x34 ∷ 0x56 ∷ 0x7F ∷ 0xFF ∷ 0xFF ∷ 0xFF ∷ 0xFF ∷ [] }
+taught34 = record { code = 34; digits = format34; block = runP9In34 .block }
 
 abbrev pub taught35 : Taught
 taught35 = record { code = 35; digits = printed "35"; block = blockP1 }

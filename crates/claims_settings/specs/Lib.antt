@@ -1,2 +1,3 @@
+pub mod Usual
 pub mod Narrowing
 pub mod Course

@@ -1,1 +1,1 @@
-// What the setting of restricted formats touches, and what the ATM history course meets under each.
+// What the setting of restricted formats touches, what a server is handed, and the ATM history course under each setting.

@@ -10,6 +10,7 @@ fn show_line(text: &[u8]) {
 }
 
 fn main() {
+    // Format 01 would do without; a class that sends another format here meets what it always met.
     let settings = Settings::usual().with_restricted(false);
     let command = classroom::COMMAND;
     let block = PIN_BLOCK;
