@@ -100,6 +100,7 @@ int main(int argc, char **argv)
 	struct summary summary = { .shows_ns = argc < 2 || strcmp(argv[1], "ratio") != 0 };
 
 	loads_make();
+	cores_begin();
 	printf("%-34s %-6s %s  ratio\n", "load", "call", summary.shows_ns ? " ours ns  their ns" : "");
 	for (size_t i = 0; i < LOADS; i++)
 		if (!go_through(&loads[i], &summary))

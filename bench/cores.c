@@ -22,8 +22,12 @@ static const struct {
 	[REFERENCE] = { reference_ask, reference_answer },
 };
 
-/* The usual settings. Every load is of format 01, which they allow. */
-static const qg_settings settings = { .header = 4, .restricted = 1, .variable = 0 };
+static qg_settings settings;
+
+void cores_begin(void)
+{
+	settings = qg_usual();
+}
 
 qg_reply make_call(enum core core, enum call call, const struct load *load,
 	const struct command *command, uint8_t *out)

@@ -14,6 +14,10 @@ enum call { ASK, ANSWER, CALLS };
 /* The longest response; more than the asking call wants. */
 #define ROOM 65u
 
+/* Takes the usual settings for all calls: every load is of format 01, which they
+ * allow. To be called first. */
+void cores_begin(void);
+
 /* Makes the call for one command of a load. */
 qg_reply make_call(enum core core, enum call call, const struct load *load,
 	const struct command *command, uint8_t *out);

@@ -1,7 +1,7 @@
 /*
  * BK: the exchange that the paper runs, and exchanges that differ from it in a
  * place or two, each beside the sentence that settles it: the paper's, or that
- * of the request on format 03, which is request 2.
+ * of a request of document 02.
  */
 #include "command_vectors.h"
 
@@ -54,6 +54,8 @@ static const struct exchange exchanges[] = {
 	{ "paper, format: 02", USUAL, GOOD, TEXT(WITH_FORMAT("02")),
 		23, 23, AT(91, 5), TEXT("HDR1BL23") },
 	{ "paper, format: 41", UNRESTRICTED, GOOD, TEXT(WITH_FORMAT("41")),
+		69, 69, AT(91, 5), TEXT("HDR1BL69") },
+	{ "request 4, field 5: 48", UNRESTRICTED, GOOD, TEXT(WITH_FORMAT("48")),
 		69, 69, AT(91, 5), TEXT("HDR1BL69") },
 	{ "paper, format: 05 restricted", RESTRICTED, GOOD, TEXT(WITH_FORMAT("05")),
 		69, 69, AT(91, 5), TEXT("HDR1BL69") },

@@ -89,7 +89,6 @@ static const struct fault bk_faults[] = {
 	{ "request 4, field 4: none", 4, TEXT("HDR1BK" HEX_KEYS), 15, AT(75, 4) },
 	{ "request 4, field 5: a letter", 4, TEXT(WITH_FORMAT("0A")), 15, AT(91, 5) },
 	{ "request 4, field 5: 99", 4, TEXT(WITH_FORMAT("99")), 23, AT(91, 5) },
-	{ "request 4, field 5: 48", 4, TEXT(WITH_FORMAT("48")), 69, AT(91, 5) },
 	{ "request 4, field 6: 03", 4, TEXT(WITH_CHECK("03")), 15, AT(93, 6) },
 	{ "request 4, field 7: a letter in the end", 4,
 		TEXT(BK_DATA(ZEROS, "40000012345A", PAPER_VALIDATION)), 15, AT(95, 7) },

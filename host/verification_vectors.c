@@ -112,6 +112,8 @@ static const struct exchange verifications[] = {
 		69, 69, AT(90, 5), TEXT("HDR1DB69") },
 	{ "paper, format: BK alone is restricted", RESTRICTED, GOOD_WITH(any_fill_block),
 		TEXT(VERIFY_FORMAT("05")), 0, 0, NOWHERE, TEXT("HDR1DB00") },
+	{ "request 5, DA: the same under No", UNRESTRICTED, GOOD_WITH(any_fill_block),
+		TEXT(VERIFY_FORMAT("05")), 0, 0, NOWHERE, TEXT("HDR1DB00") },
 	{ "paper, table: a letter, in DA", USUAL, GOOD, TEXT(VERIFY_TABLE("012345678901234A")),
 		25, 25, AT(106, 8), TEXT("HDR1DB25") },
 

@@ -177,8 +177,8 @@ typedef struct {
  *    qg_settings settings = qg_usual();
  *    settings.restricted = 0;
  *
- * Without that both answer 69, BK at field 5. No other answer of any call is
- * touched.
+ * Without that each is refused with 69 where its format is judged, BK at field
+ * 5. No other answer of any call is touched.
  */
 qg_settings qg_usual(void);
 
