@@ -9,15 +9,14 @@
 #define CUT_IN_TABLE(table) "HDR1BK" HEX_KEYS ZEROS "01" "04" PAPER_ACCOUNT table
 
 /* PIN 34567 in a format, under the usual settings and under No by name. */
-#define IN_FORMAT(settings, format, block) settings, GOOD_WITH(block), TEXT(WITH_FORMAT(format))
 #define DONE 0, 0, NOWHERE, TEXT("HDR1BL009247FFFFFFFF")
 #define ALLOWED(format, block) \
-	{ "request 5, usual: " format, IN_FORMAT(USUAL, format, block), DONE }, \
-	{ "request 5, No: " format, IN_FORMAT(UNRESTRICTED, format, block), DONE }
+	{ "request 5, usual: " format, USUAL, GOOD_WITH(block), TEXT(WITH_FORMAT(format)), DONE }, \
+	{ "request 5, No: " format, UNRESTRICTED, GOOD_WITH(block), TEXT(WITH_FORMAT(format)), DONE }
 #define NOT_ALLOWED(format, block) \
-	{ "request 5, usual: " format, IN_FORMAT(USUAL, format, block), \
+	{ "request 5, usual: " format, USUAL, GOOD_WITH(block), TEXT(WITH_FORMAT(format)), \
 		69, 69, AT(91, 5), TEXT("HDR1BL69") }, \
-	{ "request 5, No: " format, IN_FORMAT(UNRESTRICTED, format, block), DONE }
+	{ "request 5, No: " format, UNRESTRICTED, GOOD_WITH(block), TEXT(WITH_FORMAT(format)), DONE }
 
 static const struct exchange exchanges[] = {
 	{ "paper, the exchange that is run", USUAL, GOOD, TEXT(COMMAND),

@@ -1,6 +1,6 @@
 -- The setting is looked at where a format is judged, and what stands behind that goes on from there.
 -- Assumes nothing.
-use Prim.Native.Nat.{ℕ, _+_}
+use Prim.Native.Nat.{ℕ, _+_, _≤_}
 use native.Mathlib.Omega.{arith}
 use mathlib.Core.Path.{_≡_, refl, sym, ap, _∙_}
 use mathlib.Core.Logic.{_⊎_, inl, inr}
@@ -8,7 +8,7 @@ use mathlib.Core.List.{List}
 use mathlib.Core.Bool.{Bool, true, false, false≢true}
 use lib.ListN.{length, take, drop}
 use lib.Dec.{leb}
-use borrow.Author.Tests.{le-leb}
+use borrow.Author.Tests.{le-leb, leb-true}
 use Rattle.alphabet.specs.Alphabet.{allOf}
 use Rattle.alphabet.specs.declared.Class.the-variants.{CapitalHex}
 use Rattle.numbers.specs.Numbers.{Judged, Outcome, done, refused, andThen, unless}
@@ -20,17 +20,17 @@ use Rattle.codes.specs.Codes as codes
 use Rattle.formats.specs.Formats.{is01or47}
 use Rattle.formats.specs.declared.Format.{Format}
 use Rattle.formats.specs.declared.Format.the-variants.{F01, F03, F05, F34, F35, F47}
-use Rattle.restriction.specs.Restriction.{restrictedPair}
+use Rattle.restriction.specs.Restriction.{permitted}
 use Rattle.pairs.specs.Pairs.{pairOf}
-use Rattle.pins.specs.Pins.{accountOf, sized}
-use Rattle.translation.specs.Translation.{translateBlock}
+use Rattle.pins.specs.Pins.{accountOf, accountField, sized}
+use Rattle.translation.specs.Translation.{carriedBlock, translateBlock}
 use Rattle.frame.specs.Frame.{isFramed, codeOf}
 use Rattle.frame.specs.declared.Code.{Code}
 use Rattle.frame.specs.declared.Code.the-variants.{Bk, Da, Ea, Other}
 use Rattle.fields.specs.Fields.{Found, Stage, read, faulty, fielded, onward, Ruling, ruled, unpointed, heard, run, number}
 use Rattle.fields.specs.declared.Fault.{Fault}
 use Rattle.fields.proofs.Reading.{read-once}
-use Rattle.formatfield.specs.FormatField.{allows, formatField}
+use Rattle.formatfield.specs.FormatField.{formatField}
 use Rattle.uses.specs.Uses.{pinKey, pvk}
 use Rattle.keyfields.specs.KeyFields.{keys}
 use Rattle.keyfields.specs.declared.Keys.{Keys}
@@ -43,7 +43,7 @@ use Rattle.responses.specs.Responses.{responding}
 use Rattle.commands.specs.Commands.{askBy, answerBy, opened, asking, commanded, silently, answered, replying}
 use Rattle.texts.specs.Characters.{OneOf}
 use Rattle.claims_commands.specs.Runs.{codeIn}
-use Rattle.claims_settings.specs.Narrowing.{others, upToFormat, atFormat, NotAllowed, Narrowed, AskNarrowed, AnswerNarrowed, ResponseNarrowed, TranslationNarrowed}
+use Rattle.claims_settings.specs.Narrowing.{others, upToFormat, atFormat, NotAllowed, PairNotAllowed, Narrowed, AskNarrowed, AnswerNarrowed, ResponseNarrowed, TranslationNarrowed}
 
 -- ---- judgements
 
@@ -58,30 +58,76 @@ module _ {Q A B : Type 0} (kind : Q → Type 0) where
   before-narrowed narrow wide next (inl e) = inl (ap (λ (o : Judged Q A). andThen o next) e)
   before-narrowed narrow wide next (inr (q, k, e)) = inr (q, k, ap (λ (o : Judged Q A). andThen o next) e)
 
+-- a test that is made under Yes only goes on behind what came before
+tested-next : {Q A B : Type 0} (o : Judged Q A) (wide narrow : A → Judged Q B) (test : B → Judged Q B) → ((a : A) → narrow a ≡ andThen (wide a) test) → andThen o narrow ≡ andThen (andThen o wide) test
+tested-next (done a) wide narrow test h = h a
+tested-next (refused q) wide narrow test h = refl
+
 -- ---- translation
 
--- a test that is made under Yes only
-test-narrowed : {A : Type 0} (allowed : Bool) (a : A) → Narrowed {Q = Refusal} (λ q. q ≡ NotHere69) (unless NotHere69 allowed a) (done a)
-test-narrowed true a = inl refl
-test-narrowed false a = inr (NotHere69, refl, refl)
+abbrev paired : Format × Format → Outcome (Format × Format)
+paired pair = unless NotHere69 (permitted true (pair .0) (pair .1)) pair
 
-pair-narrowed : (from to : ℕ) → Narrowed (λ q. q ≡ NotHere69) (pairOf true from to) (pairOf false from to)
+pair-tested : (from to : ℕ) → pairOf true from to ≡ andThen (pairOf false from to) paired
 unfolding pairOf
-pair-narrowed from to =
-    next-narrowed _ (codes.knownCode (codes.codeOf from)) _ _
-    (λ _. next-narrowed _ (codes.knownCode (codes.codeOf to)) _ _
-    (λ _. next-narrowed _ (codes.formatOf (codes.codeOf from)) _ _
-    (λ f. next-narrowed _ (codes.formatOf (codes.codeOf to)) _ _
-    (λ t. test-narrowed (restrictedPair f t) (f, t)))))
+pair-tested from to =
+    tested-next (codes.knownCode (codes.codeOf from)) _ _ paired
+    (λ _. tested-next (codes.knownCode (codes.codeOf to)) _ _ paired
+    (λ _. tested-next (codes.formatOf (codes.codeOf from)) _ _ paired
+    (λ f. tested-next (codes.formatOf (codes.codeOf to)) _ _ paired
+    (λ t. refl))))
+
+module _ (from to : ℕ) (block account fill : List ℕ) (room : ℕ) where
+  abbrev kind : Refusal → Type 0
+  kind q = (q ≡ NotHere69) × PairNotAllowed from to block account fill room
+
+  -- the formats, where all before them is in its form
+  pair-narrowed : 8 ≤ room → (ns digits fs : List ℕ) → sized 8 block ≡ done ns → accountOf account ≡ done digits → sized 8 fill ≡ done fs → Narrowed kind (pairOf true from to) (pairOf false from to)
+  pair-narrowed roomy ns digits fs e₁ e₂ e₃ = rw (pair-tested from to) (by (pairOf false from to) refl)
+    where
+      by-test : (pair : Format × Format) (allowed : Bool) → permitted true (pair .0) (pair .1) ≡ allowed → pairOf false from to ≡ done pair → Narrowed kind (unless NotHere69 allowed pair) (done pair)
+      by-test pair true h e = inl refl
+      by-test pair false h e = inr (
+        NotHere69,
+        (refl, record { roomy = roomy; ns = ns; eight = e₁; digits = digits; twelve = e₂; fs = fs; filled = e₃; pair = pair; built = e; outside = h }),
+        refl,
+      )
+
+      by : (o : Outcome (Format × Format)) → pairOf false from to ≡ o → Narrowed kind (andThen o paired) o
+      by (done pair) e = by-test pair (permitted true (pair .0) (pair .1)) refl e
+      by (refused q) e = inl refl
+
+  -- one argument after the other
+  fill-narrowed : 8 ≤ room → (ns digits : List ℕ) → sized 8 block ≡ done ns → accountOf account ≡ done digits → (o : Outcome (List ℕ)) → sized 8 fill ≡ o
+      → Narrowed kind (andThen o (λ fs. carriedBlock (pairOf true from to) (accountField digits) ns fs)) (andThen o (λ fs. carriedBlock (pairOf false from to) (accountField digits) ns fs))
+  fill-narrowed roomy ns digits e₁ e₂ (done fs) e₃ = before-narrowed kind (pairOf true from to) (pairOf false from to) _ (pair-narrowed roomy ns digits fs e₁ e₂ e₃)
+  fill-narrowed roomy ns digits e₁ e₂ (refused q) e₃ = inl refl
+
+  abbrev filling : Bool → List ℕ → List ℕ → Outcome (List ℕ)
+  filling r ns digits = andThen (sized 8 fill) (λ fs. carriedBlock (pairOf r from to) (accountField digits) ns fs)
+
+  account-narrowed : 8 ≤ room → (ns : List ℕ) → sized 8 block ≡ done ns → (o : Outcome (List ℕ)) → accountOf account ≡ o → Narrowed kind (andThen o (filling true ns)) (andThen o (filling false ns))
+  account-narrowed roomy ns e₁ (done digits) e₂ = fill-narrowed roomy ns digits e₁ e₂ (sized 8 fill) refl
+  account-narrowed roomy ns e₁ (refused q) e₂ = inl refl
+
+  abbrev accounted : Bool → List ℕ → Outcome (List ℕ)
+  accounted r ns = andThen (accountOf account) (filling r ns)
+
+  block-narrowed : 8 ≤ room → (o : Outcome (List ℕ)) → sized 8 block ≡ o → Narrowed kind (andThen o (accounted true)) (andThen o (accounted false))
+  block-narrowed roomy (done ns) e₁ = account-narrowed roomy ns e₁ (accountOf account) refl
+  block-narrowed roomy (refused q) e₁ = inl refl
+
+  room-narrowed : (roomy : Bool) → leb 8 room ≡ roomy
+      → Narrowed kind (andThen (unless Room901 roomy room) (λ _. andThen (sized 8 block) (accounted true))) (andThen (unless Room901 roomy room) (λ _. andThen (sized 8 block) (accounted false)))
+  room-narrowed true e = block-narrowed (leb-true 8 room e) (sized 8 block) refl
+  room-narrowed false e = inl refl
 
 pub translation-narrowed : TranslationNarrowed
 unfolding translateBlock
-translation-narrowed from to block account fill room =
-    next-narrowed _ (unless Room901 (leb (codes.blockWidth to) room) room) _ _
-    (λ _. next-narrowed _ (sized (codes.blockWidth from) block) _ _
-    (λ ns. next-narrowed _ (accountOf account) _ _
-    (λ digits. next-narrowed _ (sized 8 fill) _ _
-    (λ fs. before-narrowed _ (pairOf true from to) (pairOf false from to) _ (pair-narrowed from to)))))
+translation-narrowed from to block account fill room = (
+  room-narrowed from to block account fill room (leb 8 room) refl,
+  λ n. rw (le-leb 8 room (n .roomy), n .eight, n .twelve, n .filled, pair-tested from to, n .built, n .outside) refl,
+)
 
 -- ---- the format
 
@@ -107,17 +153,10 @@ tested o = andThen o (λ (r : Format × ℕ). unless NotHere69 (is01or47 (r .0))
 
 format-tested : (cs : List ℕ) → formatField true cs ≡ tested (formatField false cs)
 unfolding formatField
-format-tested cs = by-number (number 0 99 Field15 cs)
-  where
-    by-format : (n : ℕ) (o : Outcome Format) → andThen o (λ f. unless NotHere69 (allows true f) (f, n)) ≡ tested (andThen o (λ f. unless NotHere69 (allows false f) (f, n)))
-    by-format n (done f) = refl
-    by-format n (refused q) = refl
-
-    by-number : (o : Found ℕ)
-        → andThen o (λ code. andThen (codes.formatOf (codes.codeOf (code .0))) (λ f. unless NotHere69 (allows true f) (f, code .1)))
-        ≡ tested (andThen o (λ code. andThen (codes.formatOf (codes.codeOf (code .0))) (λ f. unless NotHere69 (allows false f) (f, code .1))))
-    by-number (done code) = by-format (code .1) (codes.formatOf (codes.codeOf (code .0)))
-    by-number (refused q) = refl
+format-tested cs =
+    tested-next (number 0 99 Field15 cs) _ _ _
+    (λ code. tested-next (codes.formatOf (codes.codeOf (code .0))) _ _ (λ (r : Format × ℕ). unless NotHere69 (is01or47 (r .0)) r)
+    (λ f. refl))
 
 -- ---- fields
 
@@ -259,8 +298,11 @@ answer-narrowed settings g h s block enciphered room = (
 )
 
 pub response-narrowed : ResponseNarrowed
-unfolding answered
-response-narrowed settings g h s block enciphered room = by (leb 65 room) (isFramed (settings .header) s) refl
+unfolding answered answerBy bkAnswer
+response-narrowed settings g h s block enciphered room = (
+  by (leb 65 room) (isFramed (settings .header) s) refl,
+  λ f roomy n. rw (le-leb 65 room roomy, n .framed, n .coded, fields-refuse settings s f n) (ap (λ (q : Fault). responding (settings .header) s (refused (q .refusal))) (n .fault)),
+)
   where
     heard-narrowed : (narrow wide : Ruling (List ℕ)) → Narrowed (NotAllowed settings s) narrow wide
         → (responding (settings .header) s (heard narrow) ≡ responding (settings .header) s (heard wide))

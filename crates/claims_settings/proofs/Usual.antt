@@ -1,20 +1,22 @@
--- The usual settings as the server is handed them, computed.
+-- Settings as the server is handed them and hands them in, computed.
 -- Assumes nothing.
-use Prim.Native.Nat.{ℕ}
+use Prim.Native.Nat.{ℕ, suc}
+use native.Mathlib.Omega.{arith}
 use mathlib.Core.Path.{_≡_, refl}
-use mathlib.Core.Bool.{Bool, true, false}
-use Rattle.settings.specs.declared.Settings.{Settings}
-use Rattle.face.specs.Face.{settingsOf, faceOf}
-use Rattle.claims_settings.specs.Usual.{UsualShown, SettingsKept}
+use mathlib.Core.Bool.{true}
+use borrow.Author.Tests.{ne-eqb}
+use Rattle.face.specs.Face.{yes?}
+use Rattle.claims_settings.specs.Usual.{UsualShown, FlagsShown, FlagsTaken}
 
 pub usual-shown : UsualShown
 usual-shown = refl
 
-pub settings-kept : SettingsKept
-settings-kept settings = by (settings .header) (settings .restricted) (settings .variable)
-  where
-    by : (header : ℕ) (restricted variable : Bool) → settingsOf (faceOf (record { header = header; restricted = restricted; variable = variable })) ≡ record { header = header; restricted = restricted; variable = variable }
-    by header true true = refl
-    by header true false = refl
-    by header false true = refl
-    by header false false = refl
+pub flags-shown : FlagsShown
+flags-shown header = (refl, refl, refl, refl)
+
+-- any byte but 0
+other-than-0 : (n : ℕ) → yes? (suc n) ≡ true
+other-than-0 n = rw (ne-eqb (suc n) 0 (λ e. omega (arith, e)))
+
+pub flags-taken : FlagsTaken
+flags-taken header m n = (rw (other-than-0 m, other-than-0 n), rw (other-than-0 m), rw (other-than-0 n), refl)

@@ -45,14 +45,14 @@ Answered settings t =
     Calls settings 8 65 (boxOf t) (but 5 (t .digits) exchange) (says 0 blockP12) (says 0 (printed "HDR1BL009247FFFFFFFF"))
     × (quietly (translateBlock (settings .restricted) (t .code) 1 (t .block) usualAccount (replicate 8 0) 8) ≡ says 0 blockP2)
 
--- both calls refuse it with 69 at field 5, and so is the translation refused
+-- both calls refuse it with 69 at field 5, place 91, and so is the translation refused
 abbrev pub Refused : Settings → Taught → Type 0
 Refused settings t =
     Calls settings 8 65 (boxOf t) (but 5 (t .digits) exchange) (says 69 []) (says 69 (printed "HDR1BL69"))
     × CallsPoint settings 8 65 (boxOf t) (but 5 (t .digits) exchange) (points 69 91 5) (points 69 91 5)
     × (quietly (translateBlock (settings .restricted) (t .code) 1 (t .block) usualAccount (replicate 8 0) 8) ≡ says 69 [])
 
--- a format of the course, under each
+-- answered where the course asks for No, refused under the usual settings
 abbrev pub AsksForNo : Taught → Type 0
 AsksForNo t = Answered (restrictedTo usually false) t × Refused usually t
 

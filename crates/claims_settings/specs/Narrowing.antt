@@ -5,13 +5,16 @@ use mathlib.Core.Path.{_≡_}
 use mathlib.Core.Logic.{_⊎_}
 use mathlib.Core.List.{List, [], _∷_}
 use mathlib.Core.Bool.{Bool, true, false}
-use Rattle.numbers.specs.Numbers.{Judged, refused}
+use Rattle.numbers.specs.Numbers.{Judged, done, refused}
 use Rattle.numbers.specs.declared.Refusal.{Refusal}
 use Rattle.numbers.specs.declared.Refusal.the-variants.{NotHere69}
 use Rattle.settings.specs.Settings.{restrictedTo}
 use Rattle.settings.specs.declared.Settings.{Settings}
 use Rattle.formats.specs.declared.Format.{Format}
 use Rattle.formats.specs.declared.Format.the-variants.{F03, F05, F34, F35}
+use Rattle.restriction.specs.Restriction.{permitted}
+use Rattle.pairs.specs.Pairs.{pairOf}
+use Rattle.pins.specs.Pins.{accountOf, sized}
 use Rattle.frame.specs.Frame.{isFramed}
 use Rattle.frame.specs.declared.Code.the-variants.{Bk}
 use Rattle.fields.specs.Fields.{Stage, read, onward}
@@ -57,7 +60,7 @@ abbrev pub Narrowed : {Q A : Type 0} → (Q → Type 0) → Judged Q A → Judge
 Narrowed {Q} kind narrow wide = (narrow ≡ wide) ⊎ ((q : Q) × kind q × (narrow ≡ refused q))
 
 -- whatever the command and the room, the asking call under Yes is as under No, or the BK is not allowed and this is its fault; and where
--- a BK is not allowed and there is room, it is
+-- a BK is not allowed and there is room, it is refused with that fault. What No answers is not said here
 abbrev pub AskNarrowed : Type 0
 AskNarrowed = (settings : Settings) (s : List ℕ) (room : ℕ)
     → Narrowed (NotAllowed settings s) (asking (restrictedTo settings true) s room) (asking (restrictedTo settings false) s room)
@@ -69,15 +72,31 @@ AnswerNarrowed = (settings : Settings) (g h : Bool) (s block enciphered : List �
     → Narrowed (NotAllowed settings s) (replying (restrictedTo settings true) g h s block enciphered room) (replying (restrictedTo settings false) g h s block enciphered room)
     × ((f : Fault) → roomToAnswer ≤ room → NotAllowed settings s f → replying (restrictedTo settings true) g h s block enciphered room ≡ refused f)
 
--- and what a host sees of it: the same number and bytes, or those of a refusal with 69 of a BK that is not allowed
+-- and what a host sees of it: the same number and bytes, or those of a refusal with 69 of a BK that is not allowed; and such a BK has these
 abbrev pub ResponseNarrowed : Type 0
 ResponseNarrowed = (settings : Settings) (g h : Bool) (s block enciphered : List ℕ) (room : ℕ)
-    → (answered (restrictedTo settings true) g h s block enciphered room ≡ answered (restrictedTo settings false) g h s block enciphered room)
-    ⊎ ((f : Fault) × NotAllowed settings s f × (answered (restrictedTo settings true) g h s block enciphered room ≡ responding (settings .header) s (refused NotHere69)))
+    → ((answered (restrictedTo settings true) g h s block enciphered room ≡ answered (restrictedTo settings false) g h s block enciphered room)
+    ⊎ ((f : Fault) × NotAllowed settings s f × (answered (restrictedTo settings true) g h s block enciphered room ≡ responding (settings .header) s (refused NotHere69))))
+    × ((f : Fault) → roomToAnswer ≤ room → NotAllowed settings s f → answered (restrictedTo settings true) g h s block enciphered room ≡ responding (settings .header) s (refused NotHere69))
 
 -- ---- below the command level
 
--- "only translation takes the restricted setting": the same, or 69. For which pairs it is 69 stands in claims_blocks, `CodesExactly`
+-- "every other built pair is 69": a translation with room, block, account and fill in their form and both formats built, whose pair is not
+-- permitted
+pub record PairNotAllowed (from to : ℕ) (block account fill : List ℕ) (room : ℕ) : Type 0 where
+  pub roomy : 8 ≤ room
+  pub ns : List ℕ
+  pub eight : sized 8 block ≡ done ns
+  pub digits : List ℕ
+  pub twelve : accountOf account ≡ done digits
+  pub fs : List ℕ
+  pub filled : sized 8 fill ≡ done fs
+  pub pair : Format × Format
+  pub built : pairOf false from to ≡ done pair
+  pub outside : permitted true (pair .0) (pair .1) ≡ false
+
+-- "only translation takes the restricted setting": it is as under No, or the pair is not allowed and it is 69; and where it is not, it is
 abbrev pub TranslationNarrowed : Type 0
 TranslationNarrowed = (from to : ℕ) (block account fill : List ℕ) (room : ℕ)
-    → Narrowed (λ (q : Refusal). q ≡ NotHere69) (translateBlock true from to block account fill room) (translateBlock false from to block account fill room)
+    → Narrowed (λ (q : Refusal). (q ≡ NotHere69) × PairNotAllowed from to block account fill room) (translateBlock true from to block account fill room) (translateBlock false from to block account fill room)
+    × (PairNotAllowed from to block account fill room → translateBlock true from to block account fill room ≡ refused NotHere69)
