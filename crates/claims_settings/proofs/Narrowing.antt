@@ -89,7 +89,7 @@ module _ (from to : ℕ) (block account fill : List ℕ) (room : ℕ) where
       by-test pair true h e = inl refl
       by-test pair false h e = inr (
         NotHere69,
-        (refl, record { roomy = roomy; ns = ns; eight = e₁; digits = digits; twelve = e₂; fs = fs; filled = e₃; pair = pair; built = e; outside = h }),
+        (refl, record { roomy = roomy; ns = ns; whole = e₁; digits = digits; numbered = e₂; fs = fs; filled = e₃; pair = pair; built = e; outside = h }),
         refl,
       )
 
@@ -126,7 +126,7 @@ pub translation-narrowed : TranslationNarrowed
 unfolding translateBlock
 translation-narrowed from to block account fill room = (
   room-narrowed from to block account fill room (leb 8 room) refl,
-  λ n. rw (le-leb 8 room (n .roomy), n .eight, n .twelve, n .filled, pair-tested from to, n .built, n .outside) refl,
+  λ n. rw (le-leb 8 room (n .roomy), n .whole, n .numbered, n .filled, pair-tested from to, n .built, n .outside) refl,
 )
 
 -- ---- the format

@@ -12,6 +12,7 @@ use Rattle.settings.specs.Settings.{restrictedTo}
 use Rattle.settings.specs.declared.Settings.{Settings}
 use Rattle.formats.specs.declared.Format.{Format}
 use Rattle.formats.specs.declared.Format.the-variants.{F03, F05, F34, F35}
+use Rattle.codes.specs.Codes.{blockWidth}
 use Rattle.restriction.specs.Restriction.{permitted}
 use Rattle.pairs.specs.Pairs.{pairOf}
 use Rattle.pins.specs.Pins.{accountOf, sized}
@@ -84,18 +85,19 @@ ResponseNarrowed = (settings : Settings) (g h : Bool) (s block enciphered : List
 -- "every other built pair is 69": a translation with room, block, account and fill in their form and both formats built, whose pair is not
 -- permitted
 pub record PairNotAllowed (from to : ℕ) (block account fill : List ℕ) (room : ℕ) : Type 0 where
-  pub roomy : 8 ≤ room
+  pub roomy : blockWidth to ≤ room
   pub ns : List ℕ
-  pub eight : sized 8 block ≡ done ns
+  pub whole : sized (blockWidth from) block ≡ done ns
   pub digits : List ℕ
-  pub twelve : accountOf account ≡ done digits
+  pub numbered : accountOf account ≡ done digits
   pub fs : List ℕ
   pub filled : sized 8 fill ≡ done fs
   pub pair : Format × Format
   pub built : pairOf false from to ≡ done pair
   pub outside : permitted true (pair .0) (pair .1) ≡ false
 
--- "only translation takes the restricted setting": it is as under No, or the pair is not allowed and it is 69; and where it is not, it is
+-- "only translation takes the restricted setting": it is as under No, or the pair is not allowed and it is 69; and where the pair is not
+-- allowed, it is 69
 abbrev pub TranslationNarrowed : Type 0
 TranslationNarrowed = (from to : ℕ) (block account fill : List ℕ) (room : ℕ)
     → Narrowed (λ (q : Refusal). (q ≡ NotHere69) × PairNotAllowed from to block account fill room) (translateBlock true from to block account fill room) (translateBlock false from to block account fill room)
