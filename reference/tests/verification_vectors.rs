@@ -449,15 +449,16 @@ fn blocks_of_format_03() {
 }
 
 /// PIN 45678 against natural 06431 has the differences of P9 over the last four digits, as P10
-/// says: the answers are alike.
+/// says: the answers are alike, whichever of the two they are.
 #[test]
 fn equal_differences_answer_alike() {
     let enciphered = bytes("06 43 10 00 00 00 00 00");
     for (code, _) in CODES {
-        for offset in [&b"9247FFFFFFFF"[..], b"9248FFFFFFFF"] {
+        for (offset, number) in [(b"9247FFFFFFFF", 0), (b"9248FFFFFFFF", 1)] {
             let command = of_the_paper(code).with(FORMAT, b"34").with(OFFSET, offset).bytes();
             let good = [true, true];
             let first = answered(usual(), good, &command, &bytes("25 34 56 7F FF FF FF FF"));
+            assert_eq!(first.0.number, number);
             let block = bytes("25 45 67 8F FF FF FF FF");
             assert_eq!(answered_with(usual(), good, &command, &block, &enciphered), first);
         }
