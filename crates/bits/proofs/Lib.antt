@@ -1,0 +1,4 @@
+pub mod Xor
+pub mod Select
+pub mod Linear
+pub mod Nibbled
