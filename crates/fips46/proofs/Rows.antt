@@ -1,0 +1,82 @@
+-- Each row of each box holds every number from 0 to 15 once: one test over the 512 numbers, carried to what a box makes of six bits.
+-- Assumes nothing.
+use mathlib.Core.Path.{_≡_, refl}
+use mathlib.Core.Bool.{Bool, true, false, _&&_}
+use mathlib.Core.List.{List, [], _∷_}
+use Prim.Native.Nat.{ℕ, zero, suc, _+_, _-_, _*_, _/_, _%_, _<_}
+use native.Mathlib.Omega.{arith}
+use lib.Dec.{eqb, ltb}
+use lib.ListN.{length, getD}
+use borrow.Author.Tests.{ltb-true}
+use Rattle.nibbles.proofs.Lists.{and-left, and-right}
+use Rattle.fips46.specs.Fips46.{S1, S2, S3, S4, S5, S6, S7, S8, boxes, S}
+
+abbrev one : Bool → ℕ
+one true = 1
+one false = 0
+
+-- how often a number stands in a row
+abbrev pub count : ℕ → List ℕ → ℕ
+count v [] = 0
+count v (x ∷ xs) = one (eqb x v) + count v xs
+
+-- every number below n stands there once
+abbrev pub onceEach : ℕ → List ℕ → Bool
+onceEach zero row = true
+onceEach (suc n) row = eqb (count n row) 1 && onceEach n row
+
+abbrev allBelow : ℕ → List ℕ → Bool
+allBelow n [] = true
+allBelow n (x ∷ xs) = ltb x n && allBelow n xs
+
+-- sixteen numbers, each below 16, every one of those once
+abbrev pub isRow : List ℕ → Bool
+isRow row = eqb (length row) 16 && (allBelow 16 row && onceEach 16 row)
+
+abbrev pub areRows : List (List ℕ) → Bool
+areRows [] = true
+areRows (row ∷ rows) = isRow row && areRows rows
+
+-- four such rows
+abbrev pub isBox : List (List ℕ) → Bool
+isBox rows = eqb (length rows) 4 && areRows rows
+
+abbrev pub areBoxes : List (List (List ℕ)) → Bool
+areBoxes [] = true
+areBoxes (b ∷ bs) = isBox b && areBoxes bs
+
+-- the test
+pub boxes-hold : areBoxes boxes ≡ true
+unfolding boxes S1 S2 S3 S4 S5 S6 S7 S8
+boxes-hold = refl
+
+-- ---- it is carried to each number
+
+below-at : (n : ℕ) (xs : List ℕ) → 0 < n → allBelow n xs ≡ true → (j : ℕ) → getD xs j 0 < n
+below-at n [] p t j = p
+below-at n (x ∷ xs) p t zero = ltb-true x n (and-left (ltb x n) (allBelow n xs) t)
+below-at n (x ∷ xs) p t (suc j) = below-at n xs p (and-right (ltb x n) (allBelow n xs) t) j
+
+pub row-at : (rows : List (List ℕ)) → areRows rows ≡ true → (i : ℕ) → i < length rows → isRow (getD rows i []) ≡ true
+row-at [] t i h = absurd (omega arith)
+row-at (row ∷ rows) t zero h = and-left (isRow row) (areRows rows) t
+row-at (row ∷ rows) t (suc i) h = row-at rows (and-right (isRow row) (areRows rows) t) i (omega arith)
+
+row-below : (row : List ℕ) → isRow row ≡ true → (j : ℕ) → getD row j 0 < 16
+row-below row t =
+    below-at 16 row (omega arith) (and-left (allBelow 16 row) (onceEach 16 row) (and-right (eqb (length row) 16) (allBelow 16 row && onceEach 16 row) t))
+
+rows-below : (rows : List (List ℕ)) → areRows rows ≡ true → (i j : ℕ) → getD (getD rows i []) j 0 < 16
+rows-below [] t i j = omega arith
+rows-below (row ∷ rows) t zero j = row-below row (and-left (isRow row) (areRows rows) t) j
+rows-below (row ∷ rows) t (suc i) j = rows-below rows (and-right (isRow row) (areRows rows) t) i j
+
+boxes-below : (bs : List (List (List ℕ))) → areBoxes bs ≡ true → (n i j : ℕ) → getD (getD (getD bs n []) i []) j 0 < 16
+boxes-below [] t n i j = omega arith
+boxes-below (b ∷ bs) t zero i j = rows-below b (and-right (eqb (length b) 4) (areRows b) (and-left (isBox b) (areBoxes bs) t)) i j
+boxes-below (b ∷ bs) t (suc n) i j = boxes-below bs (and-right (isBox b) (areBoxes bs) t) n i j
+
+-- what a box makes of six bits has four
+pub S-below : (n b : ℕ) → S n b < 16
+unfolding S
+S-below n b = boxes-below boxes boxes-hold (n - 1) (b / 32 % 2 * 2 + b % 2) (b / 2 % 16)
