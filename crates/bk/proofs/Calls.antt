@@ -1,4 +1,4 @@
--- What the two calls come to, answer by answer.
+-- What the calls come to, answer by answer.
 -- Assumes nothing.
 use Prim.Native.Nat.{ℕ}
 use mathlib.Core.Path.{_≡_, ap}
@@ -6,7 +6,7 @@ use mathlib.Core.List.{List}
 use mathlib.Core.Bool.{Bool}
 use lib.ListN.{length}
 use Rattle.nibbles.proofs.Lists.{Below}
-use Rattle.numbers.specs.Numbers.{refused}
+use Rattle.numbers.specs.Numbers.{done, refused}
 use Rattle.numbers.specs.declared.Refusal.{Refusal}
 use Rattle.settings.specs.declared.Settings.{Settings}
 use Rattle.pins.specs.Answers.{readingOf}
@@ -23,11 +23,12 @@ use Rattle.fields.specs.declared.Fault.{Fault}
 use Rattle.responses.specs.Answers.{answeredOf}
 use Rattle.responses.specs.declared.Payload.the-variants.{Offset}
 use Rattle.responses.specs.declared.Answered.the-variants as answered
+use Rattle.sealed.specs.Sealed.{blockIn}
 use Rattle.pairing.specs.Pairing.{askedAt}
 use Rattle.pairing.specs.Answers.{boxRows}
 use Rattle.bkfields.proofs.Reading.{fields-found, fields-bad}
 use Rattle.bkfields.specs.BkFields.{bkFields}
-use Rattle.bk.specs.Bk.{bkAsk, bkAnswer}
+use Rattle.bk.specs.Bk.{bkAsk, bkExtract, bkAnswer}
 use Rattle.bkfinish.specs.BkFinish.{bkFinish}
 use Rattle.bkfields.specs.Answers.{bkRead}
 use Rattle.bkfields.specs.declared.Bk.{Bk}
@@ -45,6 +46,16 @@ module _ (settings : Settings) (s : List ℕ) (at : ℕ) where
   pub ask-read : (p : Bk) → fields.Got p ≡ bkRead (bkFields (settings .restricted) s at) → bkAsk settings s at ≡ unpointed (askedAt s (p .offsetting))
   unfolding bkAsk
   ask-read p e = rw (fields-found (bkFields (settings .restricted) s at) p e .1)
+
+  -- ---- the PIN block's call
+
+  pub extract-faulty : (f : Fault) → fields.Bad f ≡ bkRead (bkFields (settings .restricted) s at) → bkExtract settings s at ≡ refused f
+  unfolding bkExtract
+  extract-faulty f e = rw (fields-bad (bkFields (settings .restricted) s at) f e)
+
+  pub extract-read : (p : Bk) → fields.Got p ≡ bkRead (bkFields (settings .restricted) s at) → bkExtract settings s at ≡ done (blockIn s (p .sealed))
+  unfolding bkExtract
+  extract-read p e = rw (fields-found (bkFields (settings .restricted) s at) p e .1)
 
 -- ---- the answering call
 

@@ -1,7 +1,7 @@
--- What the two calls make of a command that was read is as long as it should be.
+-- What the calls make of a command that was read is as long as it should be.
 -- Assumes nothing.
 use Prim.Native.Nat.{ℕ}
-use mathlib.Core.Path.{_≡_, subst}
+use mathlib.Core.Path.{_≡_, sym, subst}
 use mathlib.Core.List.{List}
 use mathlib.Core.Bool.{Bool}
 use lib.ListN.{length}
@@ -20,9 +20,9 @@ use Rattle.responses.proofs.Laws.{Fine, Sound}
 use Rattle.pairing.specs.Pairing.{askedAt}
 use Rattle.pairing.proofs.Laws as pairing
 use Rattle.bkfields.specs.BkFields.{bkFields}
-use Rattle.bk.specs.Bk.{bkAsk, bkAnswer}
+use Rattle.bk.specs.Bk.{bkAsk, bkExtract, bkAnswer}
 use Rattle.bkfinish.specs.BkFinish.{bkFinish}
-use Rattle.bkfields.proofs.Places.{placed}
+use Rattle.bkfields.proofs.Places.{placed, block-placed}
 use Rattle.bkfinish.proofs.Places.{finish-within}
 
 -- ---- the asking call
@@ -35,6 +35,17 @@ asked-row settings s at bytes e =
     let p = f .0 in
     let r = ruled-read (bkFields (settings .restricted) s at) p (f .1) in
     pairing.asked-row s (p .offsetting) (placed (settings .restricted) s at p (r .0) (r .1) .offsetting) bytes (pointing-done 0 0 (askedAt s (p .offsetting)) bytes (f .2))
+
+-- ---- the PIN block's call
+
+-- so is the block that is taken out
+pub extracted-row : (settings : Settings) (s : List ℕ) (at : ℕ) (bytes : List ℕ) → bkExtract settings s at ≡ done bytes → (ns : List ℕ) × Sixteen ns × (bytes ≡ packs ns)
+unfolding bkExtract
+extracted-row settings s at bytes e =
+    let f = then-done (ruled (bkFields (settings .restricted) s at)) _ bytes e in
+    let p = f .0 in
+    let r = ruled-read (bkFields (settings .restricted) s at) p (f .1) in
+    (_, pairing.block-sixteen s (p .sealed) (block-placed (settings .restricted) s at p (r .0) (r .1)), sym (value-of (f .2)))
 
 -- ---- the answering call
 

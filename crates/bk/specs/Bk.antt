@@ -1,4 +1,4 @@
--- The two calls of a BK behind its code.
+-- The calls of a BK behind its code.
 use Prim.Native.Nat.{ℕ}
 use mathlib.Core.List.{List}
 use mathlib.Core.Bool.{Bool}
@@ -8,6 +8,7 @@ use Rattle.settings.specs.declared.Settings.{Settings}
 use Rattle.keybox.specs.KeyBox.{boxed}
 use Rattle.fields.specs.Fields.{Ruling, ruled, unpointed}
 use Rattle.responses.specs.Responses.{Payload, offset, answering}
+use Rattle.sealed.specs.Sealed.{blockIn}
 use Rattle.pairing.specs.Pairing.{askedAt}
 use Rattle.bkfields.specs.BkFields.{bkFields}
 use Rattle.bkfinish.specs.BkFinish.{bkFinish}
@@ -20,6 +21,14 @@ unfoldable pub bkAsk : Settings → List ℕ → ℕ → Ruling (List ℕ)
 bkAsk settings s at =
     andThen (ruled (bkFields (settings .restricted) s at))
     (λ p. unpointed (askedAt s (p .offsetting)))
+
+-- ---- the PIN block's call
+
+-- the same fields; the block itself is not looked into
+unfoldable pub bkExtract : Settings → List ℕ → ℕ → Ruling (List ℕ)
+bkExtract settings s at =
+    andThen (ruled (bkFields (settings .restricted) s at))
+    (λ p. done (blockIn s (p .sealed)))
 
 -- ---- the answering call
 

@@ -1,7 +1,7 @@
-// The BK command: its asking and its answering call.
+// The BK command: its asking call, its PIN block's and its answering call.
 ghost use mathlib.Core.Path.{_≡_};
 ghost use Rattle.responses.specs.Answers.{askedOf, answeredOf};
-ghost use Rattle.bk.specs.Bk.{bkAsk, bkAnswer};
+ghost use Rattle.bk.specs.Bk.{bkAsk, bkExtract, bkAnswer};
 use bkfields::BkRead;
 use fields::Cursor;
 use keybox::BoxRead;
@@ -21,6 +21,17 @@ pub fn ask(settings: Settings, command: &[u8], start: Cursor) -> Asked
     };
     let row = pairing::asked(command, bk.offsetting);
     Asked::of(row)
+}
+
+// Judges the PIN block's call behind the command code, and takes the block out.
+pub fn extract(settings: Settings, command: &[u8], start: Cursor) -> Asked
+    ensures { λ r. ⌜ r ≡ askedOf (bkExtract settings (now (command .entry)) (start .at)) ⌝ }
+{
+    let fields = bkfields::read(settings.restricted, command, start);
+    let BkRead::Got(bk) = fields else {
+        return Asked::Bad(fields.fault());
+    };
+    Asked::Block(pairing::block_row(command, bk.sealed))
 }
 
 // Judges the answering call behind the command code: the fields, the key box's answers, the finish.

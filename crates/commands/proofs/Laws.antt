@@ -1,4 +1,4 @@
--- What the two calls come to.
+-- What the calls come to.
 -- Assumes nothing.
 use Prim.Native.Nat.{ℕ, _+_, _≤_, _<_}
 use native.Mathlib.Omega.{arith}
@@ -9,7 +9,7 @@ use lib.ListN.{drop}
 use lib.Dec.{leb}
 use borrow.Author.Tests.{leb-true, lt-leb, le-leb}
 use Rattle.nibbles.specs.Nibbles.{packs}
-use Rattle.numbers.specs.Numbers.{Outcome, done, refused, unless, numberOf}
+use Rattle.numbers.specs.Numbers.{Outcome, done, refused, andThen, unless, numberOf}
 use Rattle.numbers.specs.Promise.{Does, quietly}
 use Rattle.numbers.specs.declared.Refusal.{Refusal}
 use Rattle.numbers.specs.declared.Refusal.the-variants.{Room901, Frame902}
@@ -20,14 +20,14 @@ use Rattle.answers.proofs.Laws.{Sixteen}
 use Rattle.frame.specs.Frame.{isFramed, framed, codeOf}
 use Rattle.frame.specs.declared.Code.{Code}
 use Rattle.frame.specs.declared.Code.the-variants.{Bk, Da, Ea, Other}
-use Rattle.fields.specs.Fields.{unpointed, heard, nowhere, shown}
+use Rattle.fields.specs.Fields.{Ruling, unpointed, heard, nowhere, shown}
 use Rattle.fields.proofs.Rulings.{pointing-done}
 use Rattle.responses.specs.Responses.{Payload, responding}
 use Rattle.responses.proofs.Laws.{Blocky, Sound}
 use Rattle.uses.specs.Uses.{terminalKey, zoneKey}
-use Rattle.bk.proofs.Places.{asked-row, answer-sound}
+use Rattle.bk.proofs.Places.{asked-row, extracted-row, answer-sound}
 use Rattle.verify.proofs.Places as verify
-use Rattle.commands.specs.Commands.{askBy, answerBy, opened, asking, asked, answered, commanded, replying}
+use Rattle.commands.specs.Commands.{askBy, extractBy, answerBy, opened, asking, asked, extracting, answered, commanded, replying}
 
 -- ---- the asking call
 
@@ -40,19 +40,36 @@ module _ (settings : Settings) (s : List ℕ) (room : ℕ) where
   unfolding asking
   asked-framed r f = rw (le-leb 8 room r, f)
 
--- what it asks for is a block, and there is room for it
+-- what a call with room for eight bytes writes is a block, and there is room for it, where behind the frame it is the bytes of a row
+opened-block :
+    (least room header : ℕ) (s : List ℕ) (next : ℕ → Ruling (List ℕ)) → 8 ≤ least
+    → ((code : ℕ) (bs : List ℕ) → next code ≡ done bs → (ns : List ℕ) × Sixteen ns × (bs ≡ packs ns))
+    → Blocky (andThen (unpointed (opened least room header s)) next) room
+opened-block least room header s next enough rowed bs e =
+    let f = then-done (unpointed (opened least room header s)) next bs e in
+    let o = pointing-done 0 0 (opened least room header s) (f .0) (f .1) in
+    let r = then-done (unless Room901 (leb least room) room) (λ _. framed header s) (f .0) o in
+    (omega (arith, leb-true least room (passed Room901 (leb least room) room (r .0) (r .1) .0)), rowed (f .0) bs (f .2))
+
+-- so what is asked for
 pub asked-block : (settings : Settings) (s : List ℕ) (room : ℕ) → Blocky (asking settings s room) room
 unfolding asking askBy
-asked-block settings s room bs e =
-    let f = then-done (unpointed (opened 8 room (settings .header) s)) _ bs e in
-    let o = pointing-done 0 0 (opened 8 room (settings .header) s) (f .0) (f .1) in
-    let r = then-done (unless Room901 (leb 8 room) room) (λ _. framed (settings .header) s) (f .0) o in
-    (leb-true 8 room (passed Room901 (leb 8 room) room (r .0) (r .1) .0), by-code (codeOf (drop (f .0) s)) (f .0 + 2) (f .2)) where
-      by-code : (code : Code) (at : ℕ) → askBy code settings s at ≡ done bs → (ns : List ℕ) × Sixteen ns × (bs ≡ packs ns)
-      by-code Bk at h = asked-row settings s at bs h
-      by-code Da at h = verify.asked-row terminalKey s at bs h
-      by-code Ea at h = verify.asked-row zoneKey s at bs h
-      by-code Other at h = absurd (let z : _≡_ {A = ℕ} 0 1 = cc in omega arith)
+asked-block settings s room = opened-block 8 room (settings .header) s _ (omega arith) (λ code bs h. by-code (codeOf (drop code s)) (code + 2) bs h) where
+  by-code : (code : Code) (at : ℕ) (bs : List ℕ) → askBy code settings s at ≡ done bs → (ns : List ℕ) × Sixteen ns × (bs ≡ packs ns)
+  by-code Bk at bs h = asked-row settings s at bs h
+  by-code Da at bs h = verify.asked-row terminalKey s at bs h
+  by-code Ea at bs h = verify.asked-row zoneKey s at bs h
+  by-code Other at bs h = absurd (let z : _≡_ {A = ℕ} 0 1 = cc in omega arith)
+
+-- and the PIN block
+pub extracted-block : (settings : Settings) (s : List ℕ) (room : ℕ) → Blocky (extracting settings s room) room
+unfolding extracting extractBy
+extracted-block settings s room = opened-block 16 room (settings .header) s _ (omega arith) (λ code bs h. by-code (codeOf (drop code s)) (code + 2) bs h) where
+  by-code : (code : Code) (at : ℕ) (bs : List ℕ) → extractBy code settings s at ≡ done bs → (ns : List ℕ) × Sixteen ns × (bs ≡ packs ns)
+  by-code Bk at bs h = extracted-row settings s at bs h
+  by-code Da at bs h = verify.extracted-row terminalKey s at bs h
+  by-code Ea at bs h = verify.extracted-row zoneKey s at bs h
+  by-code Other at bs h = absurd (let z : _≡_ {A = ℕ} 0 1 = cc in omega arith)
 
 -- ---- the answering call
 

@@ -1,4 +1,4 @@
-// The two calls of a host command, whatever its code: the asking and the answering call.
+// The calls of a host command, whatever its code: the asking call, the PIN block's and the answering call.
 ghost use mathlib.Core.Path.{_≡_};
 ghost use Prim.Native.Nat.{_+_, _≤_};
 ghost use lib.ListN.{length, drop};
@@ -6,7 +6,7 @@ ghost use Rattle.numbers.specs.Promise.{Does, quietly};
 ghost use Rattle.frame.specs.Frame.{codeOf};
 ghost use Rattle.fields.specs.Fields.{shown};
 ghost use Rattle.responses.specs.Answers.{askedOf, answeredOf};
-ghost use Rattle.commands.specs.Commands.{askBy, answerBy, asking, asked, answered, replying};
+ghost use Rattle.commands.specs.Commands.{askBy, extractBy, answerBy, asking, asked, extracting, extracted, answered, replying};
 use fields::Cursor;
 use frame::Code;
 use numbers::Refusal;
@@ -19,6 +19,8 @@ use uses::Use;
 const ROOM_TO_ANSWER: usize = 65;
 
 const ROOM_TO_ASK: usize = 8;
+
+const ROOM_TO_EXTRACT: usize = 16;
 
 // The asking call by the command's code, whose place is given.
 fn ask_by(settings: Settings, command: &[u8], code: usize) -> Asked
@@ -54,6 +56,42 @@ pub fn ask(settings: Settings, command: &[u8], out: &mut [u8]) -> Told
 {
     let asked = asking(settings, command, out.len());
     responses::ask(asked, out)
+}
+
+// The PIN block's call by the command's code, whose place is given.
+fn extract_by(settings: Settings, command: &[u8], code: usize) -> Asked
+    requires { ⌜ code + 2 ≤ length (now command) ⌝ }
+    ensures { λ r. ⌜ r ≡ askedOf (extractBy (codeOf (drop code (now (command .entry)))) settings (now (command .entry)) (code + 2)) ⌝ }
+{
+    let start = Cursor { at: code + 2 };
+    match Code::at(command, code) {
+        Code::Bk => bk::extract(settings, command, start),
+        Code::Da => verify::extract(Use::TERMINAL_KEY, command, start),
+        Code::Ea => verify::extract(Use::ZONE_KEY, command, start),
+        Code::Other => Asked::Bad(fields::unpointed(Refusal::Code68)),
+    }
+}
+
+// 901, 902, and the command's PIN block.
+fn extracting(settings: Settings, command: &[u8], room: usize) -> Asked
+    ensures { λ r. ⌜ r ≡ askedOf (extracting settings (now (command .entry)) room) ⌝ }
+{
+    if room < ROOM_TO_EXTRACT {
+        return Asked::Bad(fields::unpointed(Refusal::Room901));
+    }
+    let header = settings.header;
+    if !frame::is_framed(header, command) {
+        return Asked::Bad(fields::unpointed(Refusal::Frame902));
+    }
+    extract_by(settings, command, header)
+}
+
+// Reads a command and writes its PIN block.
+pub fn pin_block(settings: Settings, command: &[u8], out: &mut [u8]) -> Told
+    ensures { λ r. ⌜ Does (quietly (extracted settings (now (command .entry)) (length (now (out .entry))))) (now (out .entry)) (r .reply) (now (out .exit)) × (r .pointer ≡ shown (extracting settings (now (command .entry)) (length (now (out .entry))))) ⌝ }
+{
+    let extracted = extracting(settings, command, out.len());
+    responses::ask(extracted, out)
 }
 
 // The answering call by the command's code, whose place is given.

@@ -3,10 +3,10 @@
 use Prim.Native.Nat.{ℕ, _+_, _-_, _≤_}
 use native.Mathlib.Omega.{arith}
 use mathlib.Core.Path.{_≡_, refl, sym, ap, _∙_, subst}
-use mathlib.Core.List.{List}
+use mathlib.Core.List.{List, map}
 use mathlib.Core.Bool.{true}
 use lib.ListN.{length, length-map}
-use Rattle.nibbles.specs.Nibbles.{word, row, packs, every}
+use Rattle.nibbles.specs.Nibbles.{word, nibs, row, packs, every}
 use Rattle.nibbles.proofs.Runs.{below-every}
 use Rattle.alphabet.specs.Alphabet.{allOf, valueOf}
 use Rattle.alphabet.specs.declared.Class.the-variants.{Digit}
@@ -16,7 +16,7 @@ use Rattle.pins.specs.Pins.{digit}
 use Rattle.pins.specs.Answers.{rowOf}
 use Rattle.pins.proofs.Laws.{digits-below}
 use Rattle.answers.specs.Answers.{blockOf}
-use Rattle.answers.proofs.Laws.{Sixteen}
+use Rattle.answers.proofs.Laws.{Sixteen, block-held}
 use Rattle.validation.specs.Validation.{validationRow}
 use Rattle.validation.proofs.Laws.{row-sixteen, row-block}
 use Rattle.naturals.specs.Answers.{Decimal}
@@ -28,6 +28,7 @@ use Rattle.offsets.specs.declared.Comparison.the-variants as comparison
 use Rattle.offsets.proofs.Laws.{with-natural-fit, with-natural-compared}
 use Rattle.keybox.specs.declared.Boxed.{Boxed}
 use Rattle.offsetting.specs.Offsetting.{part, accountIn, tableIn, validationIn}
+use Rattle.sealed.specs.Sealed.{blockIn}
 use Rattle.sealed.specs.declared.Sealed.{Sealed}
 use Rattle.offsetting.specs.declared.Offsetting.{Offsetting}
 use Rattle.offsetting.proofs.Laws.{Held, values-length, values-below, values-row}
@@ -42,6 +43,17 @@ cut from n m e = omega arith
 pub held-placed : (s : List ℕ) (o : Offsetting) (next : ℕ) → Held s o next → Placed s o
 held-placed s o next held =
     record { account = held .account; number = held .number; table = held .table; digits = held .digits; validation = held .validation; shape = held .shape; check = held .check }
+
+-- ---- the PIN block's characters at their place
+
+module _ (s : List ℕ) (b : Sealed) (inside : b .block + 16 ≤ length s) where
+  -- they stand for a row of sixteen
+  pub block-sixteen : Sixteen (map valueOf (part s (b .block) 16))
+  block-sixteen = record { long = values-length s (b .block) 16 inside; nibbles = values-below s (b .block) 16 inside }
+
+  -- and the word that the code holds of it is that of the block's bytes
+  pub block-word : (w : ℕ) → w ≡ word (map valueOf (part s (b .block) 16)) → w ≡ word (nibs (blockIn s b))
+  block-word w e = block-held w (map valueOf (part s (b .block) 16)) block-sixteen e
 
 module _ (s : List ℕ) (o : Offsetting) (placed : Placed s o) where
   -- ---- what stands at the places

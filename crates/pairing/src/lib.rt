@@ -1,8 +1,11 @@
 // PIN and natural PIN of a command, from the places of its fields: what the key box is asked for, and what its answers come to.
 ghost use mathlib.Core.Path.{_≡_};
-ghost use Rattle.nibbles.specs.Nibbles.{word};
+ghost use Prim.Native.Nat.{_+_, _≤_};
+ghost use lib.ListN.{length};
+ghost use Rattle.nibbles.specs.Nibbles.{word, nibs};
 ghost use Rattle.answers.specs.Answers.{blockOf};
 ghost use Rattle.offsets.specs.Answers.{comparisonOf};
+ghost use Rattle.sealed.specs.Sealed.{blockIn};
 ghost use Rattle.offsetting.specs.Offsetting.{accountIn};
 ghost use Rattle.pairing.specs.Pairing.{askedAt, pairAt};
 ghost use Rattle.pairing.specs.Answers.{Placed, boxRows};
@@ -33,6 +36,16 @@ pub fn asked(command: &[u8], inputs: Offsetting) -> Row
     let shape = inputs.shape;
     let to = from + shape.width();
     shape.row(account, &command[from..to])
+}
+
+// The PIN block at its place, as a row in a word.
+pub fn block_row(command: &[u8], sealed: Sealed) -> u64
+    requires { ⌜ sealed .block + 16 ≤ length (now command) ⌝ }
+    ensures { λ r. ⌜ r ≡ word (nibs (blockIn (now (command .entry)) sealed)) ⌝ }
+{
+    let from = sealed.block;
+    let to = from + 16;
+    spelling::values(&command[from..to])
 }
 
 // The PIN in the block with its natural PIN, through account and table.

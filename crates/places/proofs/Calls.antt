@@ -1,4 +1,4 @@
--- What the two calls come to points into the command or at its end.
+-- What the calls come to points into the command or at its end.
 -- Assumes nothing.
 use Prim.Native.Nat.{ℕ, _+_, _≤_}
 use native.Mathlib.Omega.{arith}
@@ -23,11 +23,11 @@ use Rattle.uses.specs.declared.Use.{Use}
 use Rattle.pairing.specs.Pairing.{askedAt}
 use Rattle.bkfields.specs.BkFields.{bkFields}
 use Rattle.bkfinish.specs.BkFinish.{bkFinish}
-use Rattle.bk.specs.Bk.{bkAsk, bkAnswer}
+use Rattle.bk.specs.Bk.{bkAsk, bkExtract, bkAnswer}
 use Rattle.verifyfields.specs.VerifyFields.{verifyFields}
 use Rattle.verifyfinish.specs.VerifyFinish.{verifyFinish}
-use Rattle.verify.specs.Verify.{verifyAsk, verifyAnswer}
-use Rattle.commands.specs.Commands.{askBy, answerBy, opened, asking, replying}
+use Rattle.verify.specs.Verify.{verifyAsk, verifyExtract, verifyAnswer}
+use Rattle.commands.specs.Commands.{askBy, extractBy, answerBy, opened, asking, extracting, replying}
 use Rattle.places.specs.Places.{StaysIn, RulesIn, RulesShort}
 use Rattle.places.proofs.Stages.{Any, bk-stays, verify-stays}
 
@@ -75,6 +75,17 @@ module _ (s : List ℕ) where
     ask-rules Ea = verify-asks zoneKey
     ask-rules Other = record { place = omega arith; field = omega arith }
 
+    verify-extracts : (pinKey : Use) → RulesIn s (verifyExtract pinKey s at)
+    unfolding verifyExtract
+    verify-extracts pinKey = then-rules (ruled (verifyFields pinKey s at)) _ (stage-rules (verifyFields pinKey s at) (verify-stays s pinKey at l)) (λ _ _. tt)
+
+    extract-rules : (code : Code) → RulesIn s (extractBy code settings s at)
+    unfolding extractBy bkExtract
+    extract-rules Bk = then-rules (ruled (bkFields (settings .restricted) s at)) _ (stage-rules (bkFields (settings .restricted) s at) (bk-stays s (settings .restricted) at l)) (λ _ _. tt)
+    extract-rules Da = verify-extracts terminalKey
+    extract-rules Ea = verify-extracts zoneKey
+    extract-rules Other = record { place = omega arith; field = omega arith }
+
     module _ (g h : Bool) (block enciphered : List ℕ) where
       verify-answers : (pinKey : Use) → RulesIn s (verifyAnswer pinKey (settings .variable) g h s at block enciphered)
       unfolding verifyAnswer
@@ -114,6 +125,10 @@ module _ (s : List ℕ) where
   pub asking-rules : (settings : Settings) (room : ℕ) → RulesShort s (asking settings s room)
   unfolding asking
   asking-rules settings room = opened-rules 8 room (settings .header) _ (λ code l. ask-rules settings (code + 2) l (codeOf (drop code s)))
+
+  pub extracting-rules : (settings : Settings) (room : ℕ) → RulesShort s (extracting settings s room)
+  unfolding extracting
+  extracting-rules settings room = opened-rules 16 room (settings .header) _ (λ code l. extract-rules settings (code + 2) l (codeOf (drop code s)))
 
   pub replying-rules : (settings : Settings) (g h : Bool) (block enciphered : List ℕ) (room : ℕ) → RulesShort s (replying settings g h s block enciphered room)
   unfolding replying

@@ -13,7 +13,7 @@ ghost use Rattle.verdicts.specs.Verdicts.{offsetVerdict};
 ghost use Rattle.pvv.specs.Pvv.{pvvInput, pvvMade, pvvVerdict};
 ghost use Rattle.settings.specs.Settings.{usually};
 ghost use Rattle.fields.specs.Fields.{nowhere, shown};
-ghost use Rattle.commands.specs.Commands.{asked, asking, answered, replying};
+ghost use Rattle.commands.specs.Commands.{asked, asking, extracted, extracting, answered, replying};
 ghost use Rattle.face.specs.Face.{yes?, settingsOf, faceOf, replyIn, pointerIn};
 use face::FaceReply;
 use face::FaceSettings;
@@ -36,6 +36,14 @@ pub extern "C" fn qg_ask(settings: FaceSettings, command: &[u8], out: &mut [u8])
     ensures { λ r. ⌜ Does (quietly (asked (settingsOf settings) (now (command .entry)) (length (now (out .entry))))) (now (out .entry)) (replyIn r) (now (out .exit)) × (pointerIn r ≡ shown (asking (settingsOf settings) (now (command .entry)) (length (now (out .entry))))) ⌝ }
 {
     let told = commands::ask(face::inner(settings), command, out);
+    face::wide(told.reply, told.pointer)
+}
+
+#[no_mangle]
+pub extern "C" fn qg_pin_block(settings: FaceSettings, command: &[u8], out: &mut [u8]) -> FaceReply
+    ensures { λ r. ⌜ Does (quietly (extracted (settingsOf settings) (now (command .entry)) (length (now (out .entry))))) (now (out .entry)) (replyIn r) (now (out .exit)) × (pointerIn r ≡ shown (extracting (settingsOf settings) (now (command .entry)) (length (now (out .entry))))) ⌝ }
+{
+    let told = commands::pin_block(face::inner(settings), command, out);
     face::wide(told.reply, told.pointer)
 }
 

@@ -21,7 +21,7 @@ pub enum Payload {
     Nothing,
 }
 
-// What the asking call came to: the block to be enciphered, as a row in a word.
+// What the asking call came to: the block to be enciphered, as a row in a word. So with the PIN block's call, and the PIN block.
 pub enum Asked {
     Block(u64),
     Bad(Fault),
@@ -84,7 +84,7 @@ impl Answered {
     }
 }
 
-// Writes the block that the key box must encipher, or nothing.
+// Writes the block, or nothing.
 pub fn ask(asked: Asked, out: &mut [u8]) -> Told
     requires { ⌜ RoomToAsk asked (length (now out)) ⌝ }
     ensures { λ r. ⌜ Does (quietly (heard (askedBytes asked))) (now (out .entry)) (r .reply) (now (out .exit)) × (r .pointer ≡ shown (askedBytes asked)) ⌝ }

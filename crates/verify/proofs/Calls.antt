@@ -1,4 +1,4 @@
--- What the two calls come to, answer by answer.
+-- What the calls come to, answer by answer.
 -- Assumes nothing.
 use Prim.Native.Nat.{ℕ}
 use native.Mathlib.Omega.{arith}
@@ -22,6 +22,7 @@ use Rattle.responses.specs.Answers.{answeredOf}
 use Rattle.responses.specs.declared.Payload.the-variants.{Nothing}
 use Rattle.responses.specs.declared.Answered.the-variants as answered
 use Rattle.uses.specs.declared.Use.{Use}
+use Rattle.sealed.specs.Sealed.{blockIn}
 use Rattle.pairing.specs.Pairing.{askedAt}
 use Rattle.pairing.specs.Answers.{boxRows}
 use Rattle.verifyfields.specs.VerifyFields.{verifyFields}
@@ -30,7 +31,7 @@ use Rattle.verifyfields.specs.declared.Verification.{Verification}
 use Rattle.verifyfields.specs.declared.VerificationRead.the-variants as fields
 use Rattle.verifyfields.proofs.Reading.{fields-found, fields-bad}
 use Rattle.verifyfinish.specs.VerifyFinish.{verifyFinish}
-use Rattle.verify.specs.Verify.{verifyAsk, verifyAnswer}
+use Rattle.verify.specs.Verify.{verifyAsk, verifyExtract, verifyAnswer}
 
 -- ---- the verdict's answer
 
@@ -54,6 +55,16 @@ module _ (pinKey : Use) (s : List ℕ) (at : ℕ) where
   pub ask-read : (v : Verification) → fields.Got v ≡ verificationRead (verifyFields pinKey s at) → verifyAsk pinKey s at ≡ unpointed (askedAt s (v .offsetting))
   unfolding verifyAsk
   ask-read v e = rw (fields-found (verifyFields pinKey s at) v e .1)
+
+  -- ---- the PIN block's call
+
+  pub extract-faulty : (f : Fault) → fields.Bad f ≡ verificationRead (verifyFields pinKey s at) → verifyExtract pinKey s at ≡ refused f
+  unfolding verifyExtract
+  extract-faulty f e = rw (fields-bad (verifyFields pinKey s at) f e)
+
+  pub extract-read : (v : Verification) → fields.Got v ≡ verificationRead (verifyFields pinKey s at) → verifyExtract pinKey s at ≡ done (blockIn s (v .sealed))
+  unfolding verifyExtract
+  extract-read v e = rw (fields-found (verifyFields pinKey s at) v e .1)
 
 -- ---- the answering call
 

@@ -1,7 +1,7 @@
--- What the two calls make of a command that was read is as long as it should be.
+-- What the calls make of a command that was read is as long as it should be.
 -- Assumes nothing.
 use Prim.Native.Nat.{ℕ}
-use mathlib.Core.Path.{_≡_, subst}
+use mathlib.Core.Path.{_≡_, sym, subst}
 use mathlib.Core.List.{List}
 use mathlib.Core.Bool.{Bool}
 use lib.ListN.{length}
@@ -19,9 +19,9 @@ use Rattle.pairing.specs.Pairing.{askedAt}
 use Rattle.pairing.proofs.Laws as pairing
 use Rattle.uses.specs.declared.Use.{Use}
 use Rattle.verifyfields.specs.VerifyFields.{verifyFields}
-use Rattle.verifyfields.proofs.Places.{placed}
+use Rattle.verifyfields.proofs.Places.{placed, block-placed}
 use Rattle.verifyfinish.specs.VerifyFinish.{verifyFinish}
-use Rattle.verify.specs.Verify.{verifyAsk, verifyAnswer}
+use Rattle.verify.specs.Verify.{verifyAsk, verifyExtract, verifyAnswer}
 
 -- ---- the asking call
 
@@ -33,6 +33,17 @@ asked-row pinKey s at bytes e =
     let p = f .0 in
     let r = ruled-read (verifyFields pinKey s at) p (f .1) in
     pairing.asked-row s (p .offsetting) (placed pinKey s at p (r .0) (r .1) .offsetting) bytes (pointing-done 0 0 (askedAt s (p .offsetting)) bytes (f .2))
+
+-- ---- the PIN block's call
+
+-- so is the block that is taken out
+pub extracted-row : (pinKey : Use) (s : List ℕ) (at : ℕ) (bytes : List ℕ) → verifyExtract pinKey s at ≡ done bytes → (ns : List ℕ) × Sixteen ns × (bytes ≡ packs ns)
+unfolding verifyExtract
+extracted-row pinKey s at bytes e =
+    let f = then-done (ruled (verifyFields pinKey s at)) _ bytes e in
+    let p = f .0 in
+    let r = ruled-read (verifyFields pinKey s at) p (f .1) in
+    (_, pairing.block-sixteen s (p .sealed) (block-placed pinKey s at p (r .0) (r .1)), sym (value-of (f .2)))
 
 -- ---- the answering call
 

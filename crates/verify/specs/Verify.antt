@@ -1,4 +1,4 @@
--- The two calls of a DA or an EA behind its code, over the use of its PIN key.
+-- The calls of a DA or an EA behind its code, over the use of its PIN key.
 use Prim.Native.Nat.{ℕ}
 use mathlib.Core.List.{List}
 use mathlib.Core.Bool.{Bool}
@@ -8,6 +8,7 @@ use Rattle.keybox.specs.KeyBox.{boxed}
 use Rattle.fields.specs.Fields.{Ruling, ruled, unpointed}
 use Rattle.responses.specs.Responses.{Payload, nothing, answering}
 use Rattle.uses.specs.declared.Use.{Use}
+use Rattle.sealed.specs.Sealed.{blockIn}
 use Rattle.pairing.specs.Pairing.{askedAt}
 use Rattle.verifyfields.specs.VerifyFields.{verifyFields}
 use Rattle.verifyfinish.specs.VerifyFinish.{verifyFinish}
@@ -19,6 +20,14 @@ unfoldable pub verifyAsk : Use → List ℕ → ℕ → Ruling (List ℕ)
 verifyAsk pinKey s at =
     andThen (ruled (verifyFields pinKey s at))
     (λ v. unpointed (askedAt s (v .offsetting)))
+
+-- ---- the PIN block's call
+
+-- as BK's: the same fields, and no look into the block
+unfoldable pub verifyExtract : Use → List ℕ → ℕ → Ruling (List ℕ)
+verifyExtract pinKey s at =
+    andThen (ruled (verifyFields pinKey s at))
+    (λ v. done (blockIn s (v .sealed)))
 
 -- ---- the answering call
 

@@ -1,7 +1,7 @@
-// The DA and EA commands: their asking and their answering call, over the PIN key's use.
+// The DA and EA commands: their asking call, their PIN block's and their answering call, over the PIN key's use.
 ghost use mathlib.Core.Path.{_≡_};
 ghost use Rattle.responses.specs.Answers.{askedOf, answeredOf};
-ghost use Rattle.verify.specs.Verify.{verifyAsk, verifyAnswer};
+ghost use Rattle.verify.specs.Verify.{verifyAsk, verifyExtract, verifyAnswer};
 use fields::Cursor;
 use keybox::BoxRead;
 use pins::Verdict;
@@ -21,6 +21,17 @@ pub fn ask(pinkey: Use, command: &[u8], start: Cursor) -> Asked
     };
     let row = pairing::asked(command, verification.offsetting);
     Asked::of(row)
+}
+
+// Judges the PIN block's call behind the command code, and takes the block out.
+pub fn extract(pinkey: Use, command: &[u8], start: Cursor) -> Asked
+    ensures { λ r. ⌜ r ≡ askedOf (verifyExtract pinkey (now (command .entry)) (start .at)) ⌝ }
+{
+    let fields = verifyfields::read(pinkey, command, start);
+    let VerificationRead::Got(verification) = fields else {
+        return Asked::Bad(fields.fault());
+    };
+    Asked::Block(pairing::block_row(command, verification.sealed))
 }
 
 // Judges the answering call behind the command code: the fields, the key box's answers, the finish.
