@@ -120,6 +120,7 @@ endings-once = record {
 pub pairing-once : PairingSettled
 pairing-once = record {
   asked = λ κs a r r′ ends ends′. settled;
+  block-row = λ κs a r r′ ends ends′. settled;
   pair = λ κs a r r′ ends ends′. settled;
 }
 
@@ -135,6 +136,7 @@ bk-finish-once = record { finish = λ κs a r r′ ends ends′. settled }
 pub bk-once : BkSettled
 bk-once = record {
   ask = λ κs a r r′ ends ends′. settled;
+  extract = λ κs a r r′ ends ends′. settled;
   answer = λ κs a r r′ ends ends′. settled;
 }
 
@@ -150,11 +152,13 @@ verify-finish-once = record { finish = λ κs a r r′ ends ends′. settled }
 pub verify-once : VerifySettled
 verify-once = record {
   ask = λ κs a r r′ ends ends′. settled;
+  extract = λ κs a r r′ ends ends′. settled;
   answer = λ κs a r r′ ends ends′. settled;
 }
 
 pub commands-once : CommandsSettled
 commands-once = record {
   ask = λ κs a r r′ ends ends′. told 2;
+  pin-block = λ κs a r r′ ends ends′. told 2;
   answer = λ κs a r r′ ends ends′. told 6;
 }

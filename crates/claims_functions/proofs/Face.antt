@@ -15,6 +15,7 @@ pub quillgimlet-once : QuillgimletSettled
 quillgimlet-once = record {
   qg-usual = λ κs a r r′ ends ends′. settled;
   qg-ask = λ κs a r r′ ends ends′. widely 2;
+  qg-pin-block = λ κs a r r′ ends ends′. widely 2;
   qg-answer = λ κs a r r′ ends ends′. widely 6;
   qg-read-block = λ κs a r r′ ends ends′. widely 3;
   qg-write-block = λ κs a r r′ ends ends′. widely 4;

@@ -1,5 +1,5 @@
 -- One answer to every promise of the crates of commands: key box, responses, frame, fields, LMK ids, uses, key blocks and their lengths, keys,
--- weak lists, formats, validation data, presented offsets, the stages, endings, PIN with natural PIN, BK, DA and EA, and the two calls.
+-- weak lists, formats, validation data, presented offsets, the stages, endings, PIN with natural PIN, BK, DA and EA, and the calls.
 -- Each line is over the contract of the function of its name, as the checker reads it for a caller. No line needs what a function
 -- requires: outside it a contract promises nothing.
 use Rattle.keybox.proofs as KeyBox
@@ -139,6 +139,7 @@ pub record EndingsSettled : Type 0 where
 -- every public function of pairing
 pub record PairingSettled : Type 0 where
   pub asked : Settled Pairing.asked.ended Pairing.asked.Reads.Learnt
+  pub block-row : Settled Pairing.block_row.ended Pairing.block_row.Reads.Learnt
   pub pair : Settled Pairing.pair.ended Pairing.pair.Reads.Learnt
 
 -- every public function of bkfields
@@ -153,6 +154,7 @@ pub record BkFinishSettled : Type 0 where
 -- every public function of bk
 pub record BkSettled : Type 0 where
   pub ask : Settled Bk.ask.ended Bk.ask.Reads.Learnt
+  pub extract : Settled Bk.extract.ended Bk.extract.Reads.Learnt
   pub answer : Settled Bk.answer.ended Bk.answer.Reads.Learnt
 
 -- every public function of verifyfields
@@ -167,9 +169,11 @@ pub record VerifyFinishSettled : Type 0 where
 -- every public function of verify
 pub record VerifySettled : Type 0 where
   pub ask : Settled Verify.ask.ended Verify.ask.Reads.Learnt
+  pub extract : Settled Verify.extract.ended Verify.extract.Reads.Learnt
   pub answer : Settled Verify.answer.ended Verify.answer.Reads.Learnt
 
 -- every public function of commands
 pub record CommandsSettled : Type 0 where
   pub ask : Settled Commands.ask.ended Commands.ask.Reads.Learnt
+  pub pin-block : Settled Commands.pin_block.ended Commands.pin_block.Reads.Learnt
   pub answer : Settled Commands.answer.ended Commands.answer.Reads.Learnt

@@ -1,4 +1,4 @@
--- One answer to every promise of the C face: settings and replies that cross it, and the fifteen calls that are exported.
+-- One answer to every promise of the C face: settings and replies that cross it, and the sixteen calls that are exported.
 -- Each line is over the contract of the function of its name, as the checker reads it for a caller.
 use Rattle.face.proofs as Crossing
 use Rattle.quillgimlet.proofs as Face
@@ -15,6 +15,7 @@ pub record FaceSettled : Type 0 where
 pub record QuillgimletSettled : Type 0 where
   pub qg-usual : Settled Face.qg_usual.ended Face.qg_usual.Reads.Learnt
   pub qg-ask : Settled Face.qg_ask.ended Face.qg_ask.Reads.Learnt
+  pub qg-pin-block : Settled Face.qg_pin_block.ended Face.qg_pin_block.Reads.Learnt
   pub qg-answer : Settled Face.qg_answer.ended Face.qg_answer.Reads.Learnt
   pub qg-read-block : Settled Face.qg_read_block.ended Face.qg_read_block.Reads.Learnt
   pub qg-write-block : Settled Face.qg_write_block.ended Face.qg_write_block.Reads.Learnt
