@@ -1,0 +1,5 @@
+pub mod Hex
+pub mod Extracting
+pub mod Ahead
+pub mod Blind
+pub mod Figures
