@@ -14,7 +14,11 @@ ghost use Rattle.pvv.specs.Pvv.{pvvInput, pvvMade, pvvVerdict};
 ghost use Rattle.settings.specs.Settings.{usually};
 ghost use Rattle.fields.specs.Fields.{nowhere, shown};
 ghost use Rattle.commands.specs.Commands.{asked, asking, extracted, extracting, answered, replying};
-ghost use Rattle.face.specs.Face.{yes?, settingsOf, faceOf, replyIn, pointerIn};
+ghost use Rattle.parity.specs.Parity.{oddParity};
+ghost use Rattle.ciphercalls.specs.CipherCalls.{desCall, tripleCall, keyCheck};
+ghost use Rattle.lab.specs.Lab.{labAnswered, labReplying};
+ghost use Rattle.face.specs.Face.{yes?, settingsOf, faceOf, flagOf, replyIn, pointerIn};
+use ciphers::Way;
 use face::FaceReply;
 use face::FaceSettings;
 use settings::Settings;
@@ -242,4 +246,62 @@ pub extern "C" fn qg_pvv_verdict(
     ensures { λ r. ⌜ Does (quietly (pvvVerdict format index (now (block .entry)) (now (account .entry)) (now (enciphered .entry)) (now (pvv .entry)))) [] (replyIn r) [] × (pointerIn r ≡ nowhere) ⌝ }
 {
     face::plain(pvv::pvv_verdict(format, index, block, account, enciphered, pvv))
+}
+
+// ---- the lab: clear keys, and no key box
+
+#[no_mangle]
+pub extern "C" fn qg_des_encipher(key: &[u8], block: &[u8], out: &mut [u8]) -> FaceReply
+    ensures { λ r. ⌜ Does (quietly (desCall Way.Encipher (now (key .entry)) (now (block .entry)) (length (now (out .entry))))) (now (out .entry)) (replyIn r) (now (out .exit)) × (pointerIn r ≡ nowhere) ⌝ }
+{
+    face::plain(ciphercalls::des(Way::Encipher, key, block, out))
+}
+
+#[no_mangle]
+pub extern "C" fn qg_des_decipher(key: &[u8], block: &[u8], out: &mut [u8]) -> FaceReply
+    ensures { λ r. ⌜ Does (quietly (desCall Way.Decipher (now (key .entry)) (now (block .entry)) (length (now (out .entry))))) (now (out .entry)) (replyIn r) (now (out .exit)) × (pointerIn r ≡ nowhere) ⌝ }
+{
+    face::plain(ciphercalls::des(Way::Decipher, key, block, out))
+}
+
+#[no_mangle]
+pub extern "C" fn qg_tdes_encipher(key: &[u8], block: &[u8], out: &mut [u8]) -> FaceReply
+    ensures { λ r. ⌜ Does (quietly (tripleCall Way.Encipher (now (key .entry)) (now (block .entry)) (length (now (out .entry))))) (now (out .entry)) (replyIn r) (now (out .exit)) × (pointerIn r ≡ nowhere) ⌝ }
+{
+    face::plain(ciphercalls::triple(Way::Encipher, key, block, out))
+}
+
+#[no_mangle]
+pub extern "C" fn qg_tdes_decipher(key: &[u8], block: &[u8], out: &mut [u8]) -> FaceReply
+    ensures { λ r. ⌜ Does (quietly (tripleCall Way.Decipher (now (key .entry)) (now (block .entry)) (length (now (out .entry))))) (now (out .entry)) (replyIn r) (now (out .exit)) × (pointerIn r ≡ nowhere) ⌝ }
+{
+    face::plain(ciphercalls::triple(Way::Decipher, key, block, out))
+}
+
+#[no_mangle]
+pub extern "C" fn qg_key_check(key: &[u8], out: &mut [u8]) -> FaceReply
+    ensures { λ r. ⌜ Does (quietly (keyCheck (now (key .entry)) (length (now (out .entry))))) (now (out .entry)) (replyIn r) (now (out .exit)) × (pointerIn r ≡ nowhere) ⌝ }
+{
+    face::plain(ciphercalls::key_check(key, out))
+}
+
+#[no_mangle]
+pub extern "C" fn qg_odd_parity(key: &[u8]) -> u8
+    ensures { λ r. ⌜ r ≡ flagOf (oddParity (now (key .entry))) ⌝ }
+{
+    face::flag(parity::odd_parity(key))
+}
+
+#[no_mangle]
+pub extern "C" fn qg_lab_answer(
+    settings: FaceSettings,
+    command: &[u8],
+    pinkey: &[u8],
+    pvk: &[u8],
+    out: &mut [u8],
+) -> FaceReply
+    ensures { λ r. ⌜ Does (labAnswered (settingsOf settings) (now (command .entry)) (now (pinkey .entry)) (now (pvk .entry)) (length (now (out .entry)))) (now (out .entry)) (replyIn r) (now (out .exit)) × (pointerIn r ≡ shown (labReplying (settingsOf settings) (now (command .entry)) (now (pinkey .entry)) (now (pvk .entry)) (length (now (out .entry))))) ⌝ }
+{
+    let told = lab::answer(face::inner(settings), command, pinkey, pvk, out);
+    face::wide(told.reply, told.pointer)
 }
