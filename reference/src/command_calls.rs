@@ -1,4 +1,4 @@
-//! The asking and the answering call of a host command.
+//! The asking and the answering call of a host command, and the call that hands out its PIN block.
 
 use crate::block;
 use crate::command::{Command, CODE};
@@ -14,6 +14,9 @@ const LONGEST_COMMAND: usize = 4096;
 /// BK's: header 16, response code 2, number 2, offset 12, trailer with its mark 33. Every command
 /// asks for as much.
 const LONGEST_RESPONSE: usize = 65;
+
+/// Twice as much as a PIN block has today.
+const PIN_BLOCK_ROOM: usize = 16;
 
 /// A command taken apart as far as its frame goes.
 struct Frame<'a> {
@@ -39,6 +42,21 @@ fn try_ask(settings: Settings, command: &[u8], out: &mut [u8]) -> Result<u32, Fa
     let fields = frame.fields(settings)?;
     *out = fields.validation.to_be_bytes();
     Ok(8)
+}
+
+/// Reads a command and writes the bytes of its PIN block field, which the key box must decipher
+/// under the PIN key. It judges as the asking call does, and does not look into the block.
+pub fn pin_block(settings: Settings, command: &[u8], out: &mut [u8]) -> Reply {
+    Reply::of_asking(try_pin_block(settings, command, out))
+}
+
+fn try_pin_block(settings: Settings, command: &[u8], out: &mut [u8]) -> Result<u32, Fault> {
+    let out = lent::<PIN_BLOCK_ROOM>(out).map_err(Fault::nowhere)?;
+    let frame = Frame::of_command(settings, command).map_err(Fault::nowhere)?;
+    let fields = frame.fields(settings)?;
+    let block = fields.pin_block.to_be_bytes();
+    out[..block.len()].copy_from_slice(&block);
+    Ok(block.len() as u32)
 }
 
 /// Takes the command again with what the key box has made of it, and writes the response.

@@ -37,8 +37,10 @@ const WEAK_LIST_OR_OFFSET: u32 = 10;
 const OWN_LMK: u32 = 11;
 const TRAILER: u32 = 12;
 
-/// What the two calls need of a command.
+/// What the calls need of a command.
 pub struct Fields<'a> {
+    /// As it came, enciphered.
+    pub pin_block: u64,
     pub format: Format,
     pub check: usize,
     pub account: Account,
@@ -75,7 +77,7 @@ pub fn read<'a>(
     mut cursor: Cursor<'a>,
 ) -> Result<Fields<'a>, Fault> {
     let [pin_key_lmk, pvk_lmk] = keys(command, &mut cursor)?;
-    cursor.field(PIN_BLOCK, |it| it.take_hex(NIBBLES))?;
+    let pin_block = cursor.field(PIN_BLOCK, |it| validation::block_of_hex(it.take(NIBBLES)?))?;
     let format = cursor.field(FORMAT, |it| format(command, settings, it))?;
     let check = cursor.field(CHECK_LENGTH, |it| check_length(it.take_two_digits()?))?;
     let account = cursor.field(ACCOUNT, |it| Account::of_characters(it.take(ACCOUNT_DIGITS)?))?;
@@ -86,7 +88,7 @@ pub fn read<'a>(
     let trailer = cursor.field(TRAILER, trailer)?;
     nothing_left_over(&cursor)?;
     lmk_ids_agree([pin_key_lmk, pvk_lmk, own_lmk])?;
-    Ok(Fields { format, check, account, table, validation, task, trailer })
+    Ok(Fields { pin_block, format, check, account, table, validation, task, trailer })
 }
 
 /// Fields 1 to 3: the key type and the keys, or the keys and the maximum PIN length. What they

@@ -34,7 +34,7 @@ pub mod validation;
 
 pub use block_calls::{read_block, translate, write_block};
 pub use cipher_calls::{des_decipher, des_encipher, key_check, tdes_decipher, tdes_encipher};
-pub use command_calls::{answer, ask, usual};
+pub use command_calls::{answer, ask, pin_block, usual};
 pub use offset_calls::{differences, natural_pin, offset, offset_of_digits, offset_verdict};
 pub use pvv::{pvv, pvv_input, pvv_verdict};
 pub use reply::{Refusal, Reply};

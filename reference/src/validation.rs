@@ -29,7 +29,8 @@ pub fn block_of(validation: &[u8], account: Account) -> Result<u64, Refusal> {
     }
 }
 
-fn block_of_hex(hex: &[u8]) -> Result<u64, Refusal> {
+/// Sixteen hex characters as a block; one that is no hex is 15.
+pub fn block_of_hex(hex: &[u8]) -> Result<u64, Refusal> {
     let mut block = 0;
     for &character in hex {
         let nibble = hex_value(character).ok_or(Refusal::Field)?;
