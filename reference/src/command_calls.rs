@@ -69,29 +69,45 @@ pub fn answer(
     enciphered: &[u8],
     out: &mut [u8],
 ) -> Reply {
-    let key_box = KeyBox { pin_key_parity_good, pvk_parity_good, pin_block, enciphered };
-    Reply::of_response(try_answer(settings, key_box, command, out))
+    let key_box = |_: &Fields<'_>| {
+        let [pin_block, enciphered] = [eight_bytes(pin_block)?, eight_bytes(enciphered)?];
+        Ok(KeyBox { pin_key_parity_good, pvk_parity_good, pin_block, enciphered })
+    };
+    respond(settings, command, out, key_box)
 }
 
-/// What the key box hands over.
-struct KeyBox<'a> {
-    pin_key_parity_good: bool,
-    pvk_parity_good: bool,
-    pin_block: &'a [u8],
-    enciphered: &'a [u8],
+/// What a key box makes of a command.
+pub struct KeyBox {
+    pub pin_key_parity_good: bool,
+    pub pvk_parity_good: bool,
+    /// Deciphered under the PIN key.
+    pub pin_block: u64,
+    /// The validation block under the PVK.
+    pub enciphered: u64,
+}
+
+/// Writes the response to a command. What the key box makes of it, or why it can make nothing of
+/// it, is asked for when the fields are in order.
+pub fn respond(
+    settings: Settings,
+    command: &[u8],
+    out: &mut [u8],
+    key_box: impl FnOnce(&Fields<'_>) -> Result<KeyBox, Refusal>,
+) -> Reply {
+    Reply::of_response(try_respond(settings, command, out, key_box))
 }
 
 /// Only 901 and 902 leave without a response.
-fn try_answer(
+fn try_respond(
     settings: Settings,
-    key_box: KeyBox<'_>,
     command: &[u8],
     out: &mut [u8],
+    key_box: impl FnOnce(&Fields<'_>) -> Result<KeyBox, Refusal>,
 ) -> Result<Reply, Refusal> {
     let out = lent::<LONGEST_RESPONSE>(out)?;
     let frame = Frame::of_command(settings, command)?;
     let mut response = Response { out, written: 0 };
-    let judged = judge(settings, &key_box, &frame);
+    let judged = judge(settings, &frame, key_box);
     let number = match judged {
         Ok((Outcome::Made(offset), trailer)) => response.done(&frame, &offset, trailer),
         Ok((Outcome::Verifies, trailer)) => response.done(&frame, &[], trailer),
@@ -116,12 +132,12 @@ enum Outcome {
 /// 68, the fields, what the key box hands over: the outcome and the command's trailer.
 fn judge<'a>(
     settings: Settings,
-    key_box: &KeyBox<'_>,
     frame: &Frame<'a>,
+    key_box: impl FnOnce(&Fields<'_>) -> Result<KeyBox, Refusal>,
 ) -> Result<(Outcome, &'a [u8]), Fault> {
     let fields = frame.fields(settings)?;
-    let blocks = key_box.blocks().map_err(|refusal| Fault { refusal, point: frame.end() })?;
-    let outcome = key_box.outcome(settings, &fields, blocks).map_err(Fault::nowhere)?;
+    let key_box = key_box(&fields).map_err(|refusal| Fault { refusal, point: frame.end() })?;
+    let outcome = key_box.outcome(settings, &fields).map_err(Fault::nowhere)?;
     Ok((outcome, fields.trailer))
 }
 
@@ -146,7 +162,8 @@ impl<'a> Frame<'a> {
         fields::read(command, settings, Cursor::new(self.command, self.header.len() + CODE))
     }
 
-    /// "For slices that are not 8 bytes, the position is the command's length."
+    /// "For slices that are not 8 bytes, the position is the command's length." So it is for lab
+    /// keys of neither length.
     fn end(&self) -> Point {
         Point::at(self.command.len(), Point::NO_FIELD)
     }
@@ -157,24 +174,14 @@ impl<'a> Frame<'a> {
     }
 }
 
-impl KeyBox<'_> {
-    /// The PIN block and the enciphered block: "two slices that are not 8 bytes long (15)".
-    fn blocks(&self) -> Result<[u64; 2], Refusal> {
-        Ok([eight_bytes(self.pin_block)?, eight_bytes(self.enciphered)?])
-    }
-
+impl KeyBox {
     /// Behind the slices "10, 11, the block (20 or 24), 81, 86". A verdict has 81 in its place,
     /// then 00 or 01.
-    fn outcome(
-        &self,
-        settings: Settings,
-        fields: &Fields<'_>,
-        [pin_block, enciphered]: [u64; 2],
-    ) -> Result<Outcome, Refusal> {
+    fn outcome(&self, settings: Settings, fields: &Fields<'_>) -> Result<Outcome, Refusal> {
         self.parities()?;
-        let pin = block::read(fields.format, pin_block, fields.account)?;
+        let pin = block::read(fields.format, self.pin_block, fields.account)?;
         let covered = covered(settings, fields.check, &pin)?;
-        let natural = fields.table.natural_pin(enciphered, pin.length());
+        let natural = fields.table.natural_pin(self.enciphered, pin.length());
         let offset = offset::characters(&pin, &natural, covered);
         match &fields.task {
             Task::MakeOffset(weak_pins) if weak_pins.hold(&pin) => Err(Refusal::WeakPin),
