@@ -1,130 +1,11 @@
 //! One case: a call of the C face with everything it is given, and its answer.
 
-use crate::command::{Command, Purpose, CODE};
-use crate::reply::{Refusal, Reply};
+use crate::command::CODE;
+use crate::point::Point;
+use crate::reply::Reply;
 use crate::settings::Settings;
 
-/// The calls of the C face; the value is the call's code in a case file.
-#[derive(Clone, Copy, Debug, PartialEq, Eq, PartialOrd, Ord)]
-pub enum Call {
-    ReadBlock = 1,
-    WriteBlock = 2,
-    Translate = 3,
-    ValidationBlock = 4,
-    NaturalPin = 5,
-    Offset = 6,
-    OffsetOfDigits = 7,
-    Differences = 8,
-    OffsetVerdict = 9,
-    PvvInput = 10,
-    Pvv = 11,
-    PvvVerdict = 12,
-    Ask = 13,
-    Answer = 14,
-    Usual = 15,
-}
-
-/// What the C face makes of a number argument: a size, a flag of a byte, or 32 bits.
-#[derive(Clone, Copy, Debug, PartialEq, Eq)]
-pub enum Parameter {
-    Size,
-    Flag,
-    Word,
-}
-
-impl Parameter {
-    /// The largest number that it carries.
-    pub fn most(self) -> u64 {
-        match self {
-            Parameter::Size => u64::MAX,
-            Parameter::Flag => 0xFF,
-            Parameter::Word => 0xFFFF_FFFF,
-        }
-    }
-}
-
-impl Call {
-    pub fn code(self) -> u8 {
-        self as u8
-    }
-
-    pub fn name(self) -> &'static str {
-        match self {
-            Call::ReadBlock => "read_block",
-            Call::WriteBlock => "write_block",
-            Call::Translate => "translate",
-            Call::ValidationBlock => "validation_block",
-            Call::NaturalPin => "natural_pin",
-            Call::Offset => "offset",
-            Call::OffsetOfDigits => "offset_of_digits",
-            Call::Differences => "differences",
-            Call::OffsetVerdict => "offset_verdict",
-            Call::PvvInput => "pvv_input",
-            Call::Pvv => "pvv",
-            Call::PvvVerdict => "pvv_verdict",
-            Call::Ask => "ask",
-            Call::Answer => "answer",
-            Call::Usual => "usual",
-        }
-    }
-
-    /// What its numbers are, in the order of the C face.
-    pub fn parameters(self) -> &'static [Parameter] {
-        use Parameter::{Flag, Size, Word};
-        match self {
-            Call::ValidationBlock | Call::Pvv => &[],
-            Call::ReadBlock | Call::WriteBlock | Call::NaturalPin => &[Word],
-            Call::PvvInput | Call::PvvVerdict => &[Word, Word],
-            Call::Ask | Call::Usual => &[Size, Flag, Flag],
-            Call::OffsetOfDigits | Call::Differences => &[Size, Flag, Flag, Word],
-            Call::Translate | Call::Offset | Call::OffsetVerdict => &[Size, Flag, Flag, Word, Word],
-            Call::Answer => &[Size, Flag, Flag, Flag, Flag],
-        }
-    }
-
-    /// Every number that the call can answer. 01 is a verdict's alone, also that of a command.
-    pub fn answers(self) -> &'static [u32] {
-        match self {
-            Call::ReadBlock | Call::WriteBlock => &[0, 15, 20, 23, 24, 69, 901],
-            Call::Translate | Call::PvvInput => &[0, 15, 20, 23, 24, 69, 901],
-            Call::ValidationBlock | Call::Pvv => &[0, 15, 901],
-            Call::NaturalPin => &[0, 15, 24, 25, 901],
-            Call::Offset => &[0, 15, 20, 23, 24, 25, 69, 81, 901],
-            Call::OffsetOfDigits | Call::Differences => &[0, 15, 20, 24, 81, 901],
-            Call::OffsetVerdict => &[0, 1, 15, 20, 23, 24, 25, 69, 81],
-            Call::PvvVerdict => &[0, 1, 15, 20, 23, 24, 69],
-            Call::Ask => &[0, 3, 15, 23, 25, 26, 29, 68, 69, 901, 902],
-            Call::Answer => {
-                &[0, 1, 3, 10, 11, 15, 20, 23, 24, 25, 26, 29, 68, 69, 81, 86, 901, 902]
-            }
-            Call::Usual => &[0],
-        }
-    }
-
-    /// Those of them that it can answer to a command that was meant for this one: an offset that
-    /// is made has no verdict, and only BK has a weak list.
-    pub fn answers_to(self, command: &Command) -> Vec<u32> {
-        let of_others: &[u32] = match command.purpose {
-            Purpose::MakeOffset => &[Reply::DOES_NOT_VERIFY],
-            Purpose::VerifyOffset => &[Refusal::WeakList as u32, Refusal::WeakPin as u32],
-        };
-        self.answers().iter().copied().filter(|number| !of_others.contains(number)).collect()
-    }
-
-    /// How much output the call must be lent: "8 for a block, 4 for a PVV, 12 for digits,
-    /// differences or an offset", 8 for asking, 65 for answering. The verdicts are lent none.
-    pub fn need(self) -> Option<usize> {
-        match self {
-            Call::WriteBlock | Call::Translate | Call::ValidationBlock | Call::PvvInput => Some(8),
-            Call::Pvv => Some(4),
-            Call::ReadBlock | Call::NaturalPin => Some(12),
-            Call::Offset | Call::OffsetOfDigits | Call::Differences => Some(12),
-            Call::Ask => Some(8),
-            Call::Answer => Some(65),
-            Call::OffsetVerdict | Call::PvvVerdict | Call::Usual => None,
-        }
-    }
-}
+pub use super::call::{Call, Parameter};
 
 /// Numbers and runs stand in the order of the C face; a settings struct comes first, as header,
 /// restricted and variable.
@@ -154,6 +35,11 @@ impl Case {
             Call::ReadBlock | Call::WriteBlock | Call::Translate => self.ask_blocks(out),
             Call::PvvInput | Call::Pvv | Call::PvvVerdict => self.ask_pvv(out),
             Call::Ask | Call::Answer | Call::Usual => self.ask_commands(out),
+            Call::LabAnswer | Call::PinBlock => self.ask_lab_commands(out),
+            Call::DesEncipher | Call::DesDecipher => self.ask_ciphers(out),
+            Call::TdesEncipher | Call::TdesDecipher => self.ask_ciphers(out),
+            Call::KeyCheck => crate::key_check(self.run(0), out),
+            Call::OddParity => self.ask_parity(),
             _ => self.ask_offsets(out),
         }
     }
@@ -218,6 +104,29 @@ impl Case {
             }
             _ => self.ask_usual(),
         }
+    }
+
+    fn ask_lab_commands(&self, out: &mut [u8]) -> Reply {
+        let (settings, command) = (self.settings(), self.run(0));
+        match self.call {
+            Call::LabAnswer => crate::lab_answer(settings, command, self.run(1), self.run(2), out),
+            _ => crate::pin_block(settings, command, out),
+        }
+    }
+
+    fn ask_ciphers(&self, out: &mut [u8]) -> Reply {
+        let [key, block] = [self.run(0), self.run(1)];
+        match self.call {
+            Call::DesEncipher => crate::des_encipher(key, block, out),
+            Call::DesDecipher => crate::des_decipher(key, block, out),
+            Call::TdesEncipher => crate::tdes_encipher(key, block, out),
+            _ => crate::tdes_decipher(key, block, out),
+        }
+    }
+
+    /// This call says yes or no and replies nothing else: the number is what it returns.
+    fn ask_parity(&self) -> Reply {
+        Reply::new(u32::from(crate::odd_parity(self.run(0))), 0, Point::NOWHERE)
     }
 
     /// This call takes nothing and replies nothing; the case's numbers are the settings that it

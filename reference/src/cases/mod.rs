@@ -1,6 +1,7 @@
 //! Case files: requests with the answers of this program, for a C host to replay.
 
 pub mod blocks;
+pub mod call;
 pub mod case;
 pub mod command_bytes;
 pub mod command_damage;

@@ -17,6 +17,8 @@ pub enum Pointed {
     Leftovers,
     /// "slices that are not 8 bytes".
     Slices,
+    /// "a lab key of neither length".
+    LabKeys,
 }
 
 /// How many fields each command has.
@@ -45,12 +47,14 @@ fn pvk(code: [u8; CODE]) -> u32 {
 
 impl Pointed {
     /// All that a call's replies to one command can point at. Only the answering call is lent
-    /// slices.
+    /// slices, and only the lab's is lent keys.
     pub fn all(call: Call, command: &Command) -> Vec<Pointed> {
         let mut all = Vec::from_iter((1..=FIELDS).map(Pointed::Field));
         all.extend([Pointed::Ids(pvk(command.code)), Pointed::Ids(OWN_LMK), Pointed::Leftovers]);
-        if call == Call::Answer {
-            all.push(Pointed::Slices);
+        match call {
+            Call::Answer => all.push(Pointed::Slices),
+            Call::LabAnswer => all.push(Pointed::LabKeys),
+            _ => {}
         }
         all
     }
@@ -59,13 +63,13 @@ impl Pointed {
     /// points nowhere.
     pub fn of(case: &Case, reply: Reply) -> Option<([u8; CODE], Pointed)> {
         let of_field = OF_FIELDS.iter().any(|refusal| refusal.number() == reply.number);
-        let is_command = matches!(case.call, Call::Ask | Call::Answer);
-        if !of_field || !is_command {
+        if !of_field || !case.call.takes_command() {
             return None;
         }
         let (code, rest) = (case.code()?, &case.runs[0][reply.place as usize..]);
         // The first byte left over is a byte of the command; its length is no place in it.
         let pointed = match reply.field {
+            0 if rest.is_empty() && case.call == Call::LabAnswer => Pointed::LabKeys,
             0 if rest.is_empty() => Pointed::Slices,
             0 => Pointed::Leftovers,
             field if reply.number == Refusal::Field.number() && holds_an_id(code, field, rest) => {
@@ -104,6 +108,7 @@ impl fmt::Display for Pointed {
             Pointed::Ids(number) => text.pad(&format!("ids, field {number}")),
             Pointed::Leftovers => text.pad("leftovers"),
             Pointed::Slices => text.pad("slices"),
+            Pointed::LabKeys => text.pad("lab keys"),
         }
     }
 }
