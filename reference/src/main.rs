@@ -4,7 +4,7 @@ use reference::cases::{self, Part};
 use std::process::ExitCode;
 
 const USAGE: &str =
-    "usage: reference cases blocks|offsets|commands|verifications|soak FILE SEED COUNT";
+    "usage: reference cases blocks|offsets|commands|verifications|lab|soak FILE SEED COUNT";
 
 fn main() -> ExitCode {
     let arguments: Vec<String> = std::env::args().skip(1).collect();

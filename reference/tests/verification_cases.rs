@@ -349,6 +349,7 @@ fn scarce_answers_are_a_fault() {
             Counted::Number(0 | 1) if due.subject.call == Call::Answer => 5000,
             Counted::Number(_) => 500,
             Counted::Pointed(_) => 200,
+            Counted::KeyLength(_) => panic!("neither call is handed a key"),
         };
         assert_eq!(due.times, times);
         let missing = u64::from(scarce_ones.contains(&(due.subject, due.counted)));

@@ -4,21 +4,26 @@ use super::case::Call;
 use super::dice::Dice;
 use super::draft::{number_of, printable, two_digits, yes, Draft, LMK_MARK, TRAILER_MARK};
 use super::keys::{self, Place};
+use super::lab_damage::OF_LAB;
 use super::parts;
 use super::validation;
 use super::weak::WeakList;
 use crate::command::Purpose;
 
-/// How many kinds of damage are of use to an asking call too, and how many more are judged after
-/// the fields, by the answering call alone.
+/// How many kinds of damage are of use to every call, and how many more are judged after the
+/// fields, by the answering call alone. The lab's has kinds of its own there.
 const OF_FIELDS: usize = 26;
 const OF_KEY_BOX: usize = 16;
 
 impl Draft {
     /// One damage.
     pub fn damage(&mut self, dice: &mut Dice) {
-        let kinds = if self.call == Call::Ask { OF_FIELDS } else { OF_FIELDS + OF_KEY_BOX };
-        match dice.below(kinds) {
+        let behind_the_fields = match self.call {
+            Call::Answer => OF_KEY_BOX,
+            Call::LabAnswer => OF_LAB,
+            _ => 0,
+        };
+        match dice.below(OF_FIELDS + behind_the_fields) {
             0 => self.out = parts::short_out(dice, self.call),
             1 => self.damage_frame(dice),
             2 => self.damage_code(dice),
@@ -40,6 +45,7 @@ impl Draft {
             23 => self.damage_trailer(dice),
             24 => self.leave_over(dice),
             25 => self.lengthen(dice),
+            _ if self.call == Call::LabAnswer => self.damage_lab(dice),
             _ => self.damage_key_box(dice),
         }
     }
@@ -103,20 +109,20 @@ impl Draft {
     }
 
     /// The PIN is on the weak list, or does not fit the offset.
-    fn spoil_the_pin(&mut self, dice: &mut Dice) {
+    pub fn spoil_the_pin(&mut self, dice: &mut Dice) {
         match self.command.purpose {
             Purpose::MakeOffset => self.weak = Some(WeakList::with_pin(dice, &self.pin)),
             Purpose::VerifyOffset => self.put_other_offset(dice),
         }
     }
 
-    fn damage_block(&mut self, dice: &mut Dice) {
+    pub fn damage_block(&mut self, dice: &mut Dice) {
         let code = number_of(&self.format);
         parts::damage_block(dice, code, &self.account, &mut self.pin_block);
     }
 
     /// No check length is longer than a PIN of 12 digits.
-    fn check_too_long(&mut self, dice: &mut Dice) {
+    pub fn check_too_long(&mut self, dice: &mut Dice) {
         self.settings[2] = 0;
         self.check = two_digits(dice.between(self.pin.len().min(11) + 1, 12) as u64);
         if self.command.purpose == Purpose::VerifyOffset {

@@ -1,6 +1,8 @@
 //! What a file of many cases must hold.
 
 use super::case::Call;
+use super::ciphers::LENGTHS;
+use super::key_lengths::{Key, KeyLength};
 use super::pointed::Pointed;
 use super::tally::{Counted, Subject, Tally};
 use crate::command::{Command, CODE};
@@ -39,6 +41,12 @@ pub fn of_command(
 pub fn of_points(calls: &[Call], command: &Command, times: u64) -> Vec<Due> {
     let pointed = |call| Pointed::all(call, command).into_iter().map(Counted::Pointed).collect();
     dues(calls, Some(command.code), times, pointed)
+}
+
+/// Keys of every length that is counted, equally often.
+pub fn of_key_lengths(calls: &[Call], keys: &[Key], times: u64) -> Vec<Due> {
+    let of_key = |&key| LENGTHS.map(|bytes| Counted::KeyLength(KeyLength { key, bytes }));
+    dues(calls, None, times, |_| keys.iter().flat_map(of_key).collect())
 }
 
 fn numbers(answers: &[u32]) -> Vec<Counted> {

@@ -46,11 +46,13 @@ pub struct Draft {
     pub pin: Vec<u8>,
     pub pin_block: Vec<u8>,
     pub enciphered: Vec<u8>,
+    /// The PIN key and the PVK in the clear, where the lab answers; else none.
+    pub lab_keys: Vec<Vec<u8>>,
     pub out: Option<Vec<u8>>,
 }
 
 impl Draft {
-    /// A command that either call answers with 00; rarely its PIN is on the weak list by chance.
+    /// A command that every call answers with 00 but the lab's, whose keys it lacks; rarely its PIN is on the weak list by chance.
     pub fn whole(dice: &mut Dice, call: Call, command: &'static Command) -> Draft {
         let settings = settings(dice);
         let format = dice.pick(allowed_formats(command, settings));
@@ -79,6 +81,7 @@ impl Draft {
             trailer: if dice.chance(50) { trailer(dice) } else { vec![] },
             pin_block: parts::block(dice, format, &pin, &account),
             enciphered: parts::enciphered(dice),
+            lab_keys: vec![],
             out: parts::enough_out(dice, call),
             key_type,
             account,
@@ -152,6 +155,7 @@ impl Draft {
             numbers.extend(self.parities);
             runs.extend([self.pin_block, self.enciphered]);
         }
+        runs.extend(self.lab_keys);
         Case { call: self.call, numbers, runs, out: self.out }
     }
 }

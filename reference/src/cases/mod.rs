@@ -3,6 +3,7 @@
 pub mod blocks;
 pub mod call;
 pub mod case;
+pub mod ciphers;
 pub mod command_bytes;
 pub mod command_damage;
 pub mod commands;
@@ -10,7 +11,11 @@ pub mod demand;
 pub mod dice;
 pub mod draft;
 pub mod file;
+pub mod key_lengths;
 pub mod keys;
+pub mod lab;
+pub mod lab_damage;
+pub mod lab_keys;
 pub mod mutation;
 pub mod offsets;
 pub mod parts;
@@ -28,6 +33,7 @@ use case::Case;
 use demand::Demand;
 use dice::Dice;
 use file::CaseFile;
+use key_lengths::KeyLength;
 use pointed::Pointed;
 use std::io;
 use tally::{Counted, Subject, Tally};
@@ -39,6 +45,7 @@ pub enum Part {
     Offsets,
     Commands,
     Verifications,
+    Lab,
     Soak,
 }
 
@@ -49,6 +56,7 @@ impl Part {
             "offsets" => Some(Part::Offsets),
             "commands" => Some(Part::Commands),
             "verifications" => Some(Part::Verifications),
+            "lab" => Some(Part::Lab),
             "soak" => Some(Part::Soak),
             _ => None,
         }
@@ -59,6 +67,7 @@ impl Part {
             Part::Blocks | Part::Offsets => None,
             Part::Commands => Some(commands::demand()),
             Part::Verifications => Some(verifications::demand()),
+            Part::Lab => Some(lab::demand()),
             Part::Soak => Some(soak::demand()),
         }
     }
@@ -70,6 +79,7 @@ impl Part {
             Part::Offsets => offsets::case(dice),
             Part::Commands => commands::case(dice, index),
             Part::Verifications => verifications::case(dice, index),
+            Part::Lab => lab::case(dice, index),
             Part::Soak => soak::case(dice, index),
         }
     }
@@ -78,6 +88,7 @@ impl Part {
     fn subject(self, index: u64, case: &Case) -> Subject {
         match self {
             Part::Verifications => verifications::subject(index, case),
+            Part::Lab => lab::subject(index, case),
             _ => case.call.into(),
         }
     }
@@ -104,6 +115,7 @@ fn write(part: Part, path: &str, seed: u64, count: u64) -> io::Result<Tally> {
         let answer = case.answer();
         tally.count(part.subject(index, &case), Counted::Number(answer.reply.number));
         count_pointed(&mut tally, &case, answer.reply);
+        count_key_lengths(&mut tally, &case, answer.reply);
         file.add(&case, &answer)?;
     }
     file.finish()?;
@@ -115,6 +127,13 @@ fn count_pointed(tally: &mut Tally, case: &Case, reply: Reply) {
     if let Some((code, pointed)) = Pointed::of(case, reply) {
         let subject = Subject { call: case.call, code: Some(code) };
         tally.count(subject, Counted::Pointed(pointed));
+    }
+}
+
+/// Lengths of keys count for the call alone: they go by nothing in a command.
+fn count_key_lengths(tally: &mut Tally, case: &Case, reply: Reply) {
+    for length in KeyLength::of(case, reply) {
+        tally.count(case.call, Counted::KeyLength(length));
     }
 }
 

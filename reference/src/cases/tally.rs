@@ -1,6 +1,8 @@
-//! How often each call answered each number, and what its replies to commands pointed at.
+//! How often each call answered each number, what its replies to commands pointed at, and how long
+//! the keys were.
 
 use super::case::Call;
+use super::key_lengths::KeyLength;
 use super::pointed::Pointed;
 use crate::command::CODE;
 use std::collections::BTreeMap;
@@ -26,11 +28,13 @@ impl fmt::Display for Subject {
     }
 }
 
-/// What is counted of an answer: its number and, where it points into a command, at what.
+/// What is counted of an answer: its number; where it points into a command, at what; and the
+/// lengths of the keys that it judged.
 #[derive(Clone, Copy, Debug, PartialEq, Eq, PartialOrd, Ord)]
 pub enum Counted {
     Number(u32),
     Pointed(Pointed),
+    KeyLength(KeyLength),
 }
 
 impl fmt::Display for Counted {
@@ -38,6 +42,7 @@ impl fmt::Display for Counted {
         match self {
             Counted::Number(number) => write!(text, "answers {number:02}"),
             Counted::Pointed(pointed) => write!(text, "points at {pointed}"),
+            Counted::KeyLength(length) => write!(text, "judges {length}"),
         }
     }
 }
@@ -71,6 +76,7 @@ impl Tally {
     }
 }
 
+/// Done is what is answered with 00; that a parity is not odd is 0 as well.
 impl fmt::Display for Tally {
     fn fmt(&self, text: &mut fmt::Formatter<'_>) -> fmt::Result {
         for ((subject, counted), count) in &self.counts {
@@ -81,9 +87,12 @@ impl fmt::Display for Tally {
                 Counted::Pointed(pointed) => {
                     writeln!(text, "{subject:<18} at {pointed:<13} {count:>9}")?;
                 }
+                Counted::KeyLength(length) => {
+                    writeln!(text, "{subject:<18} {length:<17} {count:>9}")?;
+                }
             }
         }
-        let done = self.of_number(0);
+        let done = self.of_number(0) - self.met(Call::OddParity, Counted::Number(0));
         let share = 100 * done / self.total().max(1);
         write!(text, "{} cases, {} of them done ({} %)", self.total(), done, share)
     }
