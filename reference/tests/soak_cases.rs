@@ -8,7 +8,7 @@ use reference::cases::tally::Tally;
 use reference::cases::{scarce, soak, Part};
 use std::collections::BTreeSet;
 
-const COUNT: u64 = 420_000;
+const COUNT: u64 = 660_000;
 
 /// Shows every case of a file but the first.
 fn each(mut look: impl FnMut(u64, Case)) {
@@ -30,7 +30,9 @@ fn found<T: Ord>(mut question: impl FnMut(&Case) -> Vec<T>) -> BTreeSet<(Call, u
 #[test]
 fn calls_come_in_turn() {
     assert_eq!(soak::case(&mut Dice::new(5), 0).call, Call::Usual);
-    each(|index, case| assert_eq!(u64::from(case.call.code()), (index - 1) % 14 + 1));
+    // the code between these is that of the usual settings
+    let codes = Vec::from_iter((1..=14).chain(16..=23));
+    each(|index, case| assert_eq!(case.call.code(), codes[(index - 1) as usize % 22]));
 }
 
 #[test]
@@ -72,7 +74,7 @@ fn numbers_reach_their_edges() {
 fn runs_are_of_any_length() {
     let lengths = found(|case| case.runs.iter().map(Vec::len).collect());
     let runs: BTreeSet<_> = lengths.iter().map(|&(call, place, _)| (call, place)).collect();
-    assert_eq!(runs.len(), 36);
+    assert_eq!(runs.len(), 50);
     for (call, place) in runs {
         let seen = |length| lengths.contains(&(call, place, length));
         assert!((0..25).all(seen), "{} {place}", call.name());
@@ -92,22 +94,22 @@ fn outputs_are_of_any_length() {
     }
 }
 
-/// A soak of a million cases must hold every answer of every call.
+/// A soak of so many cases must hold every answer of every call.
 #[test]
 fn scarce_answers_are_a_fault() {
     let many = soak::demand().many;
-    assert_eq!(many, 1_000_000);
+    assert_eq!(many, 1_400_000);
     assert!(scarce(Part::Soak, many - 1, &Tally::default()).is_empty());
-    assert_eq!(scarce(Part::Soak, many, &Tally::default()).len(), 105);
+    assert_eq!(scarce(Part::Soak, many, &Tally::default()).len(), 151);
 }
 
-/// Each command is among the inputs of both calls, and comes as far as its call can.
+/// Each command is among the inputs of all calls that take one, and comes as far as its call can.
 #[test]
 fn every_command_is_done() {
     let mut met = BTreeSet::new();
     each(|_, case| {
         let number = case.answer().reply.number;
-        if matches!(case.call, Call::Ask | Call::Answer) && number < 2 {
+        if case.call.takes_command() && number < 2 {
             let header = case.numbers[0] as usize;
             met.insert((case.call, number, case.runs[0][header..header + 2].to_vec()));
         }
@@ -117,7 +119,10 @@ fn every_command_is_done() {
         codes.iter().all(seen)
     };
     assert!(of_codes(Call::Ask, 0, &[b"BK", b"DA", b"EA"]));
-    assert!(of_codes(Call::Answer, 0, &[b"BK", b"DA", b"EA"]));
-    assert!(of_codes(Call::Answer, 1, &[b"DA", b"EA"]));
-    assert_eq!(met.len(), 3 + 3 + 2);
+    assert!(of_codes(Call::PinBlock, 0, &[b"BK", b"DA", b"EA"]));
+    for call in [Call::Answer, Call::LabAnswer] {
+        assert!(of_codes(call, 0, &[b"BK", b"DA", b"EA"]));
+        assert!(of_codes(call, 1, &[b"DA", b"EA"]));
+    }
+    assert_eq!(met.len(), 2 * 3 + 2 * (3 + 2));
 }

@@ -5,11 +5,10 @@ use super::case::{Call, Case};
 use super::demand::{self, Demand};
 use super::dice::Dice;
 use super::mutation;
-use super::{blocks, commands, offsets, verifications};
-use crate::command::{DA, EA};
+use super::{blocks, ciphers, commands, lab, offsets};
 
 /// The calls that take something.
-pub const CALLS: [Call; 14] = [
+pub const CALLS: [Call; 22] = [
     Call::ReadBlock,
     Call::WriteBlock,
     Call::Translate,
@@ -24,10 +23,18 @@ pub const CALLS: [Call; 14] = [
     Call::PvvVerdict,
     Call::Ask,
     Call::Answer,
+    Call::DesEncipher,
+    Call::DesDecipher,
+    Call::TdesEncipher,
+    Call::TdesDecipher,
+    Call::KeyCheck,
+    Call::OddParity,
+    Call::LabAnswer,
+    Call::PinBlock,
 ];
 
 pub fn demand() -> Demand {
-    Demand { many: 1_000_000, dues: demand::of_calls(&CALLS, 100) }
+    Demand { many: 1_400_000, dues: demand::of_calls(&CALLS, 100) }
 }
 
 /// The first case of a file asks for the usual settings, as in a file of commands. The others go
@@ -52,17 +59,10 @@ fn made(dice: &mut Dice, call: Call) -> Case {
         blocks::case_of(dice, call)
     } else if offsets::CALLS.contains(&call) {
         offsets::case_of(dice, call)
+    } else if ciphers::CALLS.contains(&call) {
+        ciphers::case_of(dice, call)
     } else {
-        command(dice, call)
-    }
-}
-
-/// Each of the commands as often as another.
-fn command(dice: &mut Dice, call: Call) -> Case {
-    match dice.below(3) {
-        0 => commands::case_of(dice, call),
-        1 => verifications::case_of(dice, call, &DA),
-        _ => verifications::case_of(dice, call, &EA),
+        lab::of_any_command(dice, call)
     }
 }
 
