@@ -54,6 +54,12 @@ fn verification_cases() {
     assert_whole_file(Part::Verifications, "verifications", 35, &numbers);
 }
 
+#[test]
+fn lab_cases() {
+    let numbers = [1, 3, 10, 11, 15, 20, 23, 24, 25, 26, 29, 68, 69, 81, 86, 901, 902];
+    assert_whole_file(Part::Lab, "lab", 40, &numbers);
+}
+
 /// Most of these are refused, but not so many that what is made after the last refusal is rare.
 #[test]
 fn soak_cases() {
