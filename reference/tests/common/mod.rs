@@ -4,6 +4,7 @@
 pub mod bk;
 pub mod command;
 pub mod format_03;
+pub mod lab;
 pub mod verification;
 pub mod walk;
 
