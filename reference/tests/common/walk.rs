@@ -85,7 +85,7 @@ fn key(rest: &mut &[u8]) -> Option<Vec<u8>> {
     take(rest, length).map(<[u8]>::to_vec)
 }
 
-fn walk(form: Form, header: usize, command: &[u8]) -> Option<Walked> {
+pub fn walk(form: Form, header: usize, command: &[u8]) -> Option<Walked> {
     let rest = &mut command.get(header.checked_add(2)?..)?;
     let [of_offset, of_verification] = [form == Form::Offset, form == Form::Verification];
     let key_type = take(rest, if of_offset { 3 } else { 0 })?.to_vec();
