@@ -1,4 +1,4 @@
-//! The tables of FIPS 46-3, as the standard prints them.
+//! The tables of FIPS 46-3, a row of the standard to a row.
 //!
 //! A number in a table is the place of a bit, counted from the left and from 1; only the boxes hold
 //! values.
