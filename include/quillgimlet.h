@@ -1,6 +1,9 @@
 /*
  * Quillgimlet: the part of a classroom payment HSM between the host's bytes
- * and the response. This header is the manual of its C face.
+ * and the response. This header is the manual of its C face. The calls that
+ * encipher and decipher with clear keys, and that answer a command without a
+ * key box, are for classrooms: quillgimlet_lab.h is their manual, and they are
+ * in the same archive.
  *
  * Link with libquillgimlet.a, which is code for x86-64 Linux. The library keeps
  * no state between calls and allocates nothing; any number of threads may call
@@ -89,14 +92,14 @@
  *   902   no frame: header setting over 16, command over 4096 bytes or under
  *         header + 2, or a header byte outside 20 to 7E hex
  *
- * qg_ask and qg_answer take a host command. The calls declared behind them are
- * those below the command level.
+ * qg_ask, qg_pin_block and qg_answer take a host command. The calls declared
+ * behind them are those below the command level.
  *
- * For qg_ask and below the command level any number but 00 means that nothing
- * was written, and `written` is 0. After 00 the call has written the first
- * `written` bytes of `out`, and the bytes of `out` behind them keep the values
- * they had. A verdict call is lent no output and writes nothing, for 00
- * neither.
+ * For qg_ask, qg_pin_block and below the command level any number but 00 means
+ * that nothing was written, and `written` is 0. After 00 the call has written
+ * the first `written` bytes of `out`, and the bytes of `out` behind them keep
+ * the values they had. A verdict call is lent no output and writes nothing, for
+ * 00 neither.
  *
  * qg_answer writes a response for every number but 901 and 902: its refusals
  * are responses too, and so is a verdict 01. What it writes is listed with it.
@@ -145,12 +148,12 @@ typedef struct {
  *             wrote at the start of the lent output. It is 0 for every number
  *             but 00, and for every verdict call; of qg_answer it is the
  *             length of the response, and 0 for 901 and 902 alone.
- *   place     of qg_ask and qg_answer: where the field at fault begins, or the
- *             first byte left over. It is a position counted from 0, the
- *             header counted in; the command's length where nothing stands
- *             there, and 0 where the reply points at nothing.
- *   field     of qg_ask and qg_answer: the number of the field at fault, as the
- *             table of the command counts it; 0 where there is none.
+ *   place     of the calls that take a command: where the field at fault
+ *             begins, or the first byte left over. It is a position counted
+ *             from 0, the header counted in; the command's length where nothing
+ *             stands there, and 0 where the reply points at nothing.
+ *   field     of the same calls: the number of the field at fault, as the table
+ *             of the command counts it; 0 where there is none.
  *
  * What they point at is listed under WHICH CHARACTER, below. Both are 0 for 00,
  * and for every call below the command level, whatever its number.
@@ -188,30 +191,33 @@ qg_settings qg_usual(void);
  *
  * Three commands are built. BK makes the offset for a terminal PIN. DA and EA
  * verify a PIN against an offset that the host presents: DA where the PIN block
- * is under a terminal key, EA where it is under a zone key. Each takes two
+ * is under a terminal key, EA where it is under a zone key. Each takes three
  * calls.
  *
  *   1. The server hands the command to qg_ask, which writes the block that the
- *      key box must encipher under the PVK.
- *   2. The key box enciphers that block, deciphers the command's PIN block
- *      under the PIN key and judges the parity of both keys.
+ *      key box must encipher under the PVK, and to qg_pin_block, which writes
+ *      the command's PIN block, that the key box must decipher.
+ *   2. The key box enciphers the one under the PVK, deciphers the other under
+ *      the PIN key and judges the parity of both keys.
  *   3. The server hands the command to qg_answer again, with what the key box
  *      made of it, and qg_answer writes the response.
  *
- * Neither call leans on the other: each reads and judges the whole command.
- * Key unwrapping and the authentication of key blocks are the key box's.
+ * No call leans on another: each reads and judges the whole command. Key
+ * unwrapping and the authentication of key blocks are the key box's. A class
+ * that has none needs one call alone, qg_lab_answer of quillgimlet_lab.h.
  *
  * What is left to the server:
  *
- *   - Where qg_ask refuses, there is nothing to ask the key box. The server
+ *   - Where qg_ask refuses, there is nothing to ask the key box, and
+ *     qg_pin_block refuses with the same number, place and field. The server
  *     calls qg_answer all the same, with any 8 bytes for either block and any
  *     parities: it alone writes the response, and it refuses with the same
- *     number before it looks at what the key box made. (901 of qg_ask is the
- *     server's own fault; qg_answer judges its own output.)
- *   - The keys and the PIN block that the key box needs stand in the command:
- *     in fields 2, 3 and 4 of BK, in fields 1, 2 and 4 of DA and EA. No call
- *     hands them out yet: after qg_ask has answered 00 the server cuts them out
- *     itself, by the tables below.
+ *     number before it looks at what the key box made. (901 is the server's own
+ *     fault: each call judges its own output.)
+ *   - The keys that the key box needs stand in the command: in fields 2 and 3
+ *     of BK, in fields 1 and 2 of DA and EA. No call hands them out: after
+ *     qg_ask has answered 00 the server cuts them out itself, by the tables
+ *     below.
  *   - The paper has no number for a key box that fails otherwise than by a
  *     parity, as where a key block does not authenticate or the box is silent.
  *     The server then has two ways. It lends the block that is lacking with
@@ -272,7 +278,7 @@ qg_settings qg_usual(void);
  *    14-15   LMK id, 00 to 09
  *    16-     whatever follows to the length
  *
- * How both calls judge the fields: from the left, the first fault deciding,
+ * How every call judges the fields: from the left, the first fault deciding,
  * and in each part a missing character before a wrong one. Those of BK:
  *
  *    field 1      15   short, or none of the three
@@ -323,8 +329,8 @@ qg_settings qg_usual(void);
  * WHICH CHARACTER
  *
  * The host hears the number alone, and 15 may be any field. The server hears in
- * `place` and `field` where to look. Both calls tell it, and of the same fault
- * the same:
+ * `place` and `field` where to look. Every call that takes a command tells it,
+ * and of the same fault the same:
  *
  *    number                        place                  field
  *    03, 15, 23, 25, 26, 29, 69    where that field       its number
@@ -375,7 +381,7 @@ qg_settings qg_usual(void);
  *
  * Never send them to the host: it hears the number and nothing more. No byte of
  * a response comes of them. It is enough to look at what qg_answer tells, which
- * is all that qg_ask tells and a block that is not 8 bytes.
+ * is all that the others tell and a block that is not 8 bytes.
  *
  *
  * AN EXCHANGE
@@ -388,10 +394,11 @@ qg_settings qg_usual(void);
  *    0000000000000000 01 04 400000123456
  *    0123456789012345 0123456789AN
  *
- * (in one run, without the spaces) qg_ask writes 01 23 45 67 89 A2 34 56. With
- * good parities, the PIN block 05 34 16 7F FF ED CB A9 and an enciphered block
- * that begins 9F 3C 0A 71 qg_answer writes HDR1BL009247FFFFFFFF: header,
- * response code, 00, offset.
+ * (in one run, without the spaces) qg_ask writes 01 23 45 67 89 A2 34 56, and
+ * qg_pin_block 00 00 00 00 00 00 00 00. With good parities, the PIN block
+ * deciphered as 05 34 16 7F FF ED CB A9 and an enciphered block that begins
+ * 9F 3C 0A 71 qg_answer writes HDR1BL009247FFFFFFFF: header, response code, 00,
+ * offset.
  *
  * The host keeps the offset and presents it when the PIN comes again:
  *
@@ -401,9 +408,9 @@ qg_settings qg_usual(void);
  *    12 0000000000000000 01 04 400000123456
  *    0123456789012345 0123456789AN 9247FFFFFFFF
  *
- * qg_ask writes the same block. With what the key box made above qg_answer
- * writes HDR1DB00. With the PIN block 05 34 16 8F FF ED CB A9, whose PIN is
- * another, it writes HDR1DB01.
+ * qg_ask and qg_pin_block write the same blocks. With what the key box made
+ * above qg_answer writes HDR1DB00. With the PIN block deciphered as
+ * 05 34 16 8F FF ED CB A9, whose PIN is another, it writes HDR1DB01.
  *
  * Where the fields of the two begin, 1 to 9 of the BK and 1 to 10 of the DA,
  * and at the end of each row the length of the command:
@@ -411,7 +418,7 @@ qg_settings qg_usual(void);
  *    BK   6    9   42   75   91   93   95  107  123         135
  *    DA   6   39   72   74   90   92   94  106  122   134   146
  *
- * With check length 13 in place of 04 both calls refuse the BK with number 15,
+ * With check length 13 in place of 04 every call refuses the BK with number 15,
  * place 93, field 6, and the DA with number 15, place 92, field 6. With an 'X'
  * behind its last field the BK is 15, place 135, field 0.
  */
@@ -444,6 +451,39 @@ qg_reply qg_ask(qg_settings settings,
 	uint8_t *out, size_t out_len);
 
 /*
+ * Reads a command and writes its PIN block, as it came: the bytes that the key
+ * box must decipher under the PIN key.
+ *
+ *   settings               `header` is read, and `restricted` for a BK
+ *   command, command_len   the command, header included
+ *   out, out_len           where the block goes: 16 bytes or more, whatever the
+ *                          command
+ *
+ * The block is the bytes of the command's field 4: nibble for nibble its hex
+ * characters. It is under a key, and the call does not look into it: whether it
+ * holds a PIN is judged when it has been deciphered, by qg_answer.
+ *
+ * Numbers, in the order of judging, those of qg_ask but for the room:
+ *
+ *   901   out_len is under 16
+ *   902   `header` is over 16, command_len is over 4096 or under header + 2,
+ *         or a byte of the header is not printable
+ *    68   the command code is none of BK, DA and EA
+ *    15, 26, 29, 23, 69, 25, 03   the fields, judged as listed above, those
+ *         behind the PIN block too; 03 is BK's alone. `place` and `field` point
+ *         at the fault, as those of qg_ask do
+ *    00   the block is in out
+ *
+ * On 00 it writes the 8 bytes of the block, and `written` is 8. All later
+ * bytes of out keep their values, those up to the sixteenth too. For any other
+ * number it writes nothing, and `written` is 0. For 901, 902, 68 and 00 `place`
+ * and `field` are 0.
+ */
+qg_reply qg_pin_block(qg_settings settings,
+	const uint8_t *command, size_t command_len,
+	uint8_t *out, size_t out_len);
+
+/*
  * Takes a command with what the key box made of it, and writes the response.
  *
  *   settings                     `header` and `variable` are read, and
@@ -452,7 +492,8 @@ qg_reply qg_ask(qg_settings settings,
  *                                bad, any other value good
  *   pvk_parity_good              the same on the PVK
  *   command, command_len         the command, header included
- *   pin_block, pin_block_len     the command's PIN block, deciphered: 8 bytes
+ *   pin_block, pin_block_len     the block that qg_pin_block wrote, deciphered:
+ *                                8 bytes
  *   enciphered, enciphered_len   the block that qg_ask wrote, enciphered: 8
  *                                bytes
  *   out, out_len                 where the response goes: 65 bytes or more,
@@ -526,7 +567,9 @@ qg_reply qg_answer(qg_settings settings,
  *
  * A block is read, written, or read in one format and written in another.
  * The account is judged for every format, also where the format does not
- * use it. These calls handle clear blocks: ciphering is the key box's.
+ * use it. These calls handle clear blocks: ciphering is the key box's, or in a
+ * class that has none qg_tdes_encipher's and qg_tdes_decipher's, which
+ * quillgimlet_lab.h has.
  *
  * For PIN 34567, account 400000123456 and fill bytes 00:
  *
