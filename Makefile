@@ -1,5 +1,5 @@
 # Short names for the steps of the gate. What each does stands in .ci/step.
-.PHONY: check setup prove archive host bench-compiles vectors compare compare-offsets compare-commands compare-verifications lessons lessons-either lab courses example install installed uninstall claims reports clean-c bench soak header reference fmt clean
+.PHONY: check setup prove archive host bench-compiles vectors compare compare-offsets compare-commands compare-verifications compare-lab lessons lessons-either lab courses example install installed uninstall claims reports clean-c bench soak header reference fmt clean
 
 check:
 	.ci/run
@@ -19,10 +19,10 @@ claims reports courses:
 host example installed: archive
 	.ci/step $@
 
-vectors compare compare-offsets compare-commands compare-verifications lessons lessons-either lab clean-c: host
+vectors compare compare-offsets compare-commands compare-verifications compare-lab lessons lessons-either lab clean-c: host
 	.ci/step $@
 
-# outside the gate; COUNT and SEED may be given: make soak COUNT=2800000 SEED=1
+# outside the gate; COUNT and SEED may be given: make soak COUNT=4400000 SEED=1
 soak: host
 	.ci/step $@
 

@@ -1,5 +1,7 @@
 #include "calls.h"
 
+#include "quillgimlet_lab.h"
+
 /* The archive is built for this layout: one eightbyte, then the two flags. */
 _Static_assert(sizeof(qg_settings) == 16, "settings cross as 16 bytes");
 _Static_assert(sizeof(qg_reply) == 16, "a reply crosses as 16 bytes");
@@ -122,6 +124,50 @@ static qg_reply make_answer(const struct call_args *args)
 		RUN(args->runs[2]), RUN(args->out));
 }
 
+static qg_reply make_pin_block(const struct call_args *args)
+{
+	return qg_pin_block(settings_of(args->numbers), RUN(args->runs[0]), RUN(args->out));
+}
+
+static qg_reply make_des_encipher(const struct call_args *args)
+{
+	return qg_des_encipher(RUN(args->runs[0]), RUN(args->runs[1]), RUN(args->out));
+}
+
+static qg_reply make_des_decipher(const struct call_args *args)
+{
+	return qg_des_decipher(RUN(args->runs[0]), RUN(args->runs[1]), RUN(args->out));
+}
+
+static qg_reply make_tdes_encipher(const struct call_args *args)
+{
+	return qg_tdes_encipher(RUN(args->runs[0]), RUN(args->runs[1]), RUN(args->out));
+}
+
+static qg_reply make_tdes_decipher(const struct call_args *args)
+{
+	return qg_tdes_decipher(RUN(args->runs[0]), RUN(args->runs[1]), RUN(args->out));
+}
+
+static qg_reply make_key_check(const struct call_args *args)
+{
+	return qg_key_check(RUN(args->runs[0]), RUN(args->out));
+}
+
+/* It hands back a byte and no reply: one is made here, with that as its number. */
+static qg_reply make_odd_parity(const struct call_args *args)
+{
+	qg_reply reply = { .number = qg_odd_parity(RUN(args->runs[0])) };
+
+	return reply;
+}
+
+static qg_reply make_lab_answer(const struct call_args *args)
+{
+	return qg_lab_answer(settings_of(args->numbers), RUN(args->runs[0]),
+		RUN(args->runs[1]), RUN(args->runs[2]), RUN(args->out));
+}
+
 /* It takes nothing and gives settings: a case's numbers are those that it must
  * give, and a reply is made here, 00 where it gives them and 01 where not. */
 static qg_reply make_usual(const struct call_args *args)
@@ -170,6 +216,22 @@ const struct call calls[] = {
 		{ "command", "pin_block", "enciphered" }, true, make_answer },
 	{ 15, "usual", { SETTINGS },
 		{ NULL }, false, make_usual },
+	{ 16, "des_encipher", { { NULL, 0 } },
+		{ "key", "block" }, true, make_des_encipher },
+	{ 17, "des_decipher", { { NULL, 0 } },
+		{ "key", "block" }, true, make_des_decipher },
+	{ 18, "tdes_encipher", { { NULL, 0 } },
+		{ "key", "block" }, true, make_tdes_encipher },
+	{ 19, "tdes_decipher", { { NULL, 0 } },
+		{ "key", "block" }, true, make_tdes_decipher },
+	{ 20, "key_check", { { NULL, 0 } },
+		{ "key" }, true, make_key_check },
+	{ 21, "odd_parity", { { NULL, 0 } },
+		{ "key" }, false, make_odd_parity },
+	{ 22, "lab_answer", { SETTINGS },
+		{ "command", "pin_key", "pvk" }, true, make_lab_answer },
+	{ 23, "pin_block", { SETTINGS },
+		{ "command" }, true, make_pin_block },
 };
 
 const size_t calls_len = sizeof calls / sizeof calls[0];

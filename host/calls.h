@@ -2,7 +2,8 @@
  * The calls of the C face as a table: for each its code in a case file, its
  * name, what it is handed, and a function that makes the call. A new call is
  * one row and one small function in calls.c. qg_usual is handed nothing: the
- * numbers of its row are the settings that it must hand back.
+ * numbers of its row are the settings that it must hand back. qg_odd_parity
+ * hands back a byte: it is the number of a reply that is 0 otherwise.
  */
 #ifndef HOST_CALLS_H
 #define HOST_CALLS_H
