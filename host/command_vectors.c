@@ -1,6 +1,6 @@
 /*
- * The commands: how an exchange is played through both calls, and what is alike
- * for all of them: the least output, slices, the longest command. The exchanges
+ * The commands: how an exchange is played through the three calls, and what is
+ * alike for all of them: the least output, slices, the longest command. The exchanges
  * themselves stand in the parts that are called at the end. PIN and account are
  * those of the paper's figures, unless said.
  */
@@ -8,8 +8,9 @@
 
 #include <string.h>
 
-/* What the two calls must be lent at least. */
+/* What the calls must be lent at least. */
 #define ASK_LEAST 8
+#define PIN_BLOCK_LEAST 16
 #define ANSWER_LEAST 65
 
 #define LONGEST_COMMAND 4096
@@ -19,21 +20,39 @@
 static const char asked_block[] = "0123456789A23456";
 static const char enciphered_block[] = "9F3C0A7100000000";
 
-void play_asking(const struct exchange *e, size_t lent)
+/* What a call answers that writes a block. What only the answering call refuses
+ * points at nothing there. */
+static qg_reply reply_with_block(const struct exchange *e)
 {
-	uint8_t block[BLOCK], out[LENT];
 	qg_reply expected = { e->asked, e->asked == 0 ? BLOCK : 0, 0, 0 };
 
-	/* what only the answering call refuses points at nothing here */
 	if (e->asked != 0) {
 		expected.place = e->at.place;
 		expected.field = e->at.field;
 	}
+	return expected;
+}
+
+void play_asking(const struct exchange *e, size_t lent)
+{
+	uint8_t block[BLOCK], out[LENT];
+
 	block_of(asked_block, block);
 	untouched(out);
 	qg_reply reply = qg_ask(e->settings, characters(e->command.at), e->command.len,
 		out, lent);
-	hold_reply("asked", e->source, reply, out, expected, block);
+	hold_reply("asked", e->source, reply, out, reply_with_block(e), block);
+}
+
+void play_pin_block(const struct exchange *e, size_t lent)
+{
+	uint8_t block[BLOCK], out[LENT];
+
+	block_of(ZEROS, block);
+	untouched(out);
+	qg_reply reply = qg_pin_block(e->settings, characters(e->command.at), e->command.len,
+		out, lent);
+	hold_reply("its PIN block", e->source, reply, out, reply_with_block(e), block);
 }
 
 /* The answering call, also with slices of other lengths than 8. */
@@ -72,6 +91,7 @@ void play(const struct exchange *rows, size_t count)
 {
 	for (size_t i = 0; i < count; i++) {
 		play_asking(&rows[i], LENT);
+		play_pin_block(&rows[i], LENT);
 		play_answering(&rows[i], LENT);
 	}
 }
@@ -92,6 +112,7 @@ static void refuse_short_output(void)
 
 	for (size_t i = 0; i < COUNT(bare); i++) {
 		play_asking(&bare[i], ASK_LEAST - 1);
+		play_pin_block(&bare[i], PIN_BLOCK_LEAST - 1);
 		play_answering(&bare[i], ANSWER_LEAST - 1);
 	}
 }
@@ -107,6 +128,7 @@ static void fill_least_output(void)
 	};
 
 	play_asking(&longest, ASK_LEAST);
+	play_pin_block(&longest, PIN_BLOCK_LEAST);
 	play_answering(&longest, ANSWER_LEAST);
 }
 

@@ -76,8 +76,8 @@ struct spot {
 #define NOWHERE { 0, 0 }
 
 /* A command with what the key box makes of it and what it must be answered: the
- * number of the asking call, that of the answering call, what they point at,
- * and the response. */
+ * number of the asking call, which is that of the PIN block's too, that of the
+ * answering call, what they point at, and the response. */
 struct exchange {
 	const char *source;
 	qg_settings settings;
@@ -95,15 +95,16 @@ struct exchange {
 #define GOOD PARITIES(1, 1)
 #define GOOD_WITH(block) 1, 1, block
 
-/* The asking call in an output of which so many bytes are lent, and the
- * answering call. */
+/* The asking call in an output of which so many bytes are lent, the call that
+ * hands out the PIN block, which is ZEROS throughout, and the answering call. */
 void play_asking(const struct exchange *e, size_t lent);
+void play_pin_block(const struct exchange *e, size_t lent);
 void play_answering(const struct exchange *e, size_t lent);
 
 /* The answering call with slices of every other length than 8 that is near. */
 void play_slices(const struct exchange *e);
 
-/* Both calls for each. */
+/* The three calls for each. */
 void play(const struct exchange *rows, size_t count);
 
 /* The parts of the commands' vectors. */

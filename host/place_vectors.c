@@ -1,5 +1,5 @@
 /*
- * Which character, which is request 4: what the two command calls point at. The
+ * Which character, which is request 4: what the command calls point at. The
  * paper's command is cut at every length and changed at every character, and
  * commands with faults that no cut and no one character makes stand in lists,
  * each beside the place that was counted out by hand.

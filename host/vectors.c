@@ -22,10 +22,24 @@ static uint8_t hex_digit(char c)
 	return (uint8_t)(c <= '9' ? c - '0' : c - 'A' + 10);
 }
 
+static uint8_t hex_byte(const char *hex)
+{
+	return (uint8_t)(hex_digit(hex[0]) << 4 | hex_digit(hex[1]));
+}
+
 void block_of(const char *hex, uint8_t *block)
 {
 	for (size_t i = 0; i < BLOCK; i++)
-		block[i] = (uint8_t)(hex_digit(hex[2 * i]) << 4 | hex_digit(hex[2 * i + 1]));
+		block[i] = hex_byte(hex + 2 * i);
+}
+
+size_t bytes_of(const char *hex, uint8_t *bytes)
+{
+	size_t len = strlen(hex) / 2;
+
+	for (size_t i = 0; i < len; i++)
+		bytes[i] = hex_byte(hex + 2 * i);
+	return len;
 }
 
 size_t digits_of(const char *digits, uint8_t *values)
@@ -115,12 +129,25 @@ void hold_verdict(const char *deed, const char *source, qg_reply reply,
 	hold_refused(deed, source, reply, none, number);
 }
 
+void hold_kept(const char *deed, const char *source, const uint8_t *lent,
+	const uint8_t *was, size_t len)
+{
+	if (len == 0 || memcmp(lent, was, len) == 0) {
+		passed++;
+		return;
+	}
+	failed++;
+	printf("%s, %s: an input is not as it was\n", source, deed);
+}
+
 int main(void)
 {
 	block_vectors();
 	offset_vectors();
 	pvv_vectors();
 	command_vectors();
+	cipher_vectors();
+	lab_vectors();
 	printf("vectors: %u passed, %u failed\n", passed, failed);
 	return failed == 0 && passed > 0 ? 0 : 1;
 }

@@ -44,8 +44,9 @@ extern const char paper_block[];
 extern const char instructors_block[];
 #define INSTRUCTORS_FORMAT 3
 
-/* A block from its sixteen hex characters. */
+/* A block from its sixteen hex characters, and any bytes with their count. */
 void block_of(const char *hex, uint8_t *block);
+size_t bytes_of(const char *hex, uint8_t *bytes);
 
 /* A PIN's digit values from its digit characters. */
 size_t digits_of(const char *digits, uint8_t *values);
@@ -77,10 +78,16 @@ void hold_refused(const char *deed, const char *source, qg_reply reply,
 void hold_verdict(const char *deed, const char *source, qg_reply reply,
 	uint32_t number);
 
+/* Holds an input that was lent to what it was before the call. */
+void hold_kept(const char *deed, const char *source, const uint8_t *lent,
+	const uint8_t *was, size_t len);
+
 /* The parts of the program. */
 void block_vectors(void);
 void offset_vectors(void);
 void pvv_vectors(void);
 void command_vectors(void);
+void cipher_vectors(void);
+void lab_vectors(void);
 
 #endif
