@@ -1,5 +1,5 @@
 # Short names for the steps of the gate. What each does stands in .ci/step.
-.PHONY: check setup prove archive host bench-compiles vectors compare compare-offsets compare-commands compare-verifications compare-lab lessons lessons-either lab courses example install installed uninstall claims reports clean-c bench soak header reference fmt clean
+.PHONY: check setup prove archive host bench-compiles vectors compare compare-offsets compare-commands compare-verifications compare-lab openssl lessons lessons-either lab courses example install installed uninstall claims reports clean-c bench soak header reference fmt clean
 
 check:
 	.ci/run
@@ -16,7 +16,7 @@ archive header reference bench-compiles: setup
 claims reports courses:
 	.ci/step $@
 
-host example installed: archive
+host openssl example installed: archive
 	.ci/step $@
 
 vectors compare compare-offsets compare-commands compare-verifications compare-lab lessons lessons-either lab clean-c: host

@@ -63,23 +63,27 @@ static void play(const struct cipher *cipher, const struct handed *h, uint32_t n
 	hold_kept(cipher->deed, h->source, block, h->block, h->block_len);
 }
 
-/* A block and what it is enciphered, both ways, also under the key whose parity
- * bits are all the other way round. */
+/* A block and what it is enciphered, both ways. */
+static void play_under(const char *source, bool triple, const uint8_t *key, size_t key_len,
+	const uint8_t *block, const uint8_t *enciphered)
+{
+	struct handed clear = { source, key, key_len, block, BLOCK, LENT };
+	struct handed sealed = { source, key, key_len, enciphered, BLOCK, LENT };
+
+	play(triple ? &tdes_encipher : &des_encipher, &clear, 0, enciphered);
+	play(triple ? &tdes_decipher : &des_decipher, &sealed, 0, block);
+}
+
+/* The same, also under the key whose parity bits are all the other way round. */
 static void play_both_ways(const char *source, bool triple, const uint8_t *key, size_t key_len,
 	const uint8_t *block, const uint8_t *enciphered)
 {
 	uint8_t other[LONGEST];
-	const uint8_t *keys[] = { key, other };
 
 	for (size_t i = 0; i < key_len; i++)
 		other[i] = key[i] ^ PARITY_BIT;
-	for (size_t i = 0; i < COUNT(keys); i++) {
-		struct handed clear = { source, keys[i], key_len, block, BLOCK, LENT };
-		struct handed sealed = { source, keys[i], key_len, enciphered, BLOCK, LENT };
-
-		play(triple ? &tdes_encipher : &des_encipher, &clear, 0, enciphered);
-		play(triple ? &tdes_decipher : &des_decipher, &sealed, 0, block);
-	}
+	play_under(source, triple, key, key_len, block, enciphered);
+	play_under(source, triple, other, key_len, block, enciphered);
 }
 
 /* A known answer of DES. Triple DES under one key again and again is DES under
