@@ -5,8 +5,8 @@
 
 struct made { uint8_t pin_key_good, pvk_good, pin_block[8], enciphered[8]; };
 
-/* STANDS IN FOR THE KEY BOX. A real one takes keys and PIN block out of the command, judges the
- * parities, deciphers the PIN block and enciphers `asked`. This one has fixed answers. */
+/* STANDS IN FOR THE KEY BOX. A real one has the keys of the command and the block of qg_pin_block,
+ * judges the parities, deciphers that block and enciphers `asked`. This one has fixed answers. */
 static struct made key_box(const uint8_t *command, size_t len, const uint8_t *asked)
 {
 	(void)command, (void)len, (void)asked;
