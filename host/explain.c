@@ -2,8 +2,10 @@
 
 #include <stdio.h>
 
+#include "lab_keys.h"
 #include "meanings.h"
 #include "player.h"
+#include "quillgimlet_lab.h"
 #include "text.h"
 #include "underline.h"
 
@@ -45,7 +47,7 @@ struct answered {
 };
 
 /* Asks for the answer. A refused command is refused whatever the key box would
- * say, so any blocks will do there. */
+ * say, so any blocks will do there. Lab keys answer by themselves. */
 static void answer(const struct script_exchange *e, const struct fields_sent *sent, bool taken,
 	struct answered *answered)
 {
@@ -53,6 +55,11 @@ static void answer(const struct script_exchange *e, const struct fields_sent *se
 	const struct script_slice *block = taken ? &e->block : &any;
 	const struct script_slice *enciphered = taken ? &e->enciphered : &any;
 
+	if (script_is_lab(e)) {
+		answered->reply = qg_lab_answer(e->settings, sent->at, sent->len, e->pin_key.at,
+			e->pin_key.len, e->pvk.at, e->pvk.len, answered->out, sizeof answered->out);
+		return;
+	}
 	answered->reply = qg_answer(e->settings, e->pin_key_parity_good, e->pvk_parity_good,
 		sent->at, sent->len, block->at, block->len, enciphered->at, enciphered->len,
 		answered->out, sizeof answered->out);
@@ -112,7 +119,7 @@ static void show_response(const struct answered *answered)
 
 static void tell(const struct script_exchange *e)
 {
-	struct fields_sent sent = { e->settings, e->command, e->command_len };
+	struct fields_sent sent = { e->settings, e->command, e->command_len, script_is_lab(e) };
 	uint8_t block[BLOCK];
 	struct answered answered;
 	qg_reply asked = qg_ask(e->settings, sent.at, sent.len, block, sizeof block);
@@ -139,6 +146,8 @@ bool explain(char **words, int len)
 {
 	if (!explain_read(&script, words, len))
 		return false;
+	if (script_is_lab(&script.now))
+		lab_keys_make(&script.now);
 	tell(&script.now);
 	return true;
 }

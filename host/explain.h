@@ -12,8 +12,9 @@
  * text.h has it; or lines of a class script, as script.h has them: those of one
  * exchange, with a `command` line and what else they say of it. What a lesson
  * says before that exchange may be left out, but where one of the key box's
- * blocks is said the other must be too. A command's text that begins with # or
- * with a word of a script, and so reads as such a line, stands behind `command `.
+ * blocks or one of the lab keys is said the other must be too. A command's text
+ * that begins with # or with a word of a script, and so reads as such a line,
+ * stands behind `command `.
  *
  *   --header N            the settings; those that are not given are the usual
  *   --restricted yes|no   ones, or what the script's lines say
@@ -21,13 +22,16 @@
  *   --block HEX           what the key box answers: the PIN block deciphered,
  *   --enciphered HEX      the validation block enciphered,
  *   --parity PIN PVK      good or bad, for either key; good where not given
+ *   --pinkey HEX          a class without a key box: the lab keys, which stand in
+ *   --pvk HEX             the place of the three before
  *   --                    ends the options, for a command that begins with --
  *
- * An option is given once. With --block and --enciphered, or such lines of a
- * script, it goes on behind the fields: with the block, the PIN, the offset and
- * the response. The row of the block without the account is had by writing the
- * PIN again, so a block that is refused, which has no PIN, shows no such row. A
- * script's `room` line is not heeded: both calls are lent as much as they need.
+ * An option is given once. With --block and --enciphered, with --pinkey and
+ * --pvk, or such lines of a script, it goes on behind the fields: with the block,
+ * the PIN, the offset and the response. The row of the block without the account
+ * is had by writing the PIN again, so a block that is refused, which has no PIN,
+ * shows no such row. A script's `room` line is not heeded: each call is lent as
+ * much as it needs. Nor is a `seal` line.
  *
  * No line has more than 100 columns; a blank at either end of a line of the
  * response is shown as \x20. Colours are for terminals alone. Status 0: the

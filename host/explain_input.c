@@ -14,7 +14,8 @@ struct option {
 	int values;
 };
 
-enum { HEADER, RESTRICTED, VARIABLE, BLOCK, ENCIPHERED, PARITY, LINES, FROM_FILE = LINES, OPTIONS };
+enum { HEADER, RESTRICTED, VARIABLE, BLOCK, ENCIPHERED, PARITY, PINKEY, PVK, LINES,
+	FROM_FILE = LINES, OPTIONS };
 
 static const struct option options[OPTIONS] = {
 	[HEADER] = { "--header", 1 },
@@ -23,6 +24,8 @@ static const struct option options[OPTIONS] = {
 	[BLOCK] = { "--block", 1 },
 	[ENCIPHERED] = { "--enciphered", 1 },
 	[PARITY] = { "--parity", 2 },
+	[PINKEY] = { "--pinkey", 1 },
+	[PVK] = { "--pvk", 1 },
 	[FROM_FILE] = { "--file", 1 },
 };
 
@@ -208,6 +211,14 @@ static bool hold_whole(const struct script_exchange *e, const struct words *foun
 		return refuse(NULL, e->block.given ?
 			"a block is given: --enciphered or an enciphered line must go with it" :
 			"enciphered is given: --block or a block line must go with it");
+	if (e->pin_key.given != e->pvk.given)
+		return refuse(NULL, e->pvk.given ?
+			"a pvk is given: --pinkey or a pinkey line must go with it" :
+			"a pinkey is given: --pvk or a pvk line must go with it");
+	if (script_is_lab(e) && (found->given[BLOCK] != NULL || found->given[ENCIPHERED] != NULL ||
+		found->given[PARITY] != NULL))
+		return refuse(NULL, "lab keys are given, and no key box is asked: "
+			"--block, --enciphered and --parity have no place beside them");
 	if (found->given[PARITY] != NULL && !e->block.given)
 		return refuse(NULL, "--parity goes with --block and --enciphered");
 	return true;

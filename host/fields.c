@@ -138,7 +138,7 @@ static size_t end_of_field(const struct fields_sent *sent, const qg_reply *refus
 static size_t mended_end(const struct fields_sent *sent, const qg_reply *refusal)
 {
 	uint8_t bytes[LONGEST];
-	struct fields_sent mended = { sent->settings, bytes, LONGEST };
+	struct fields_sent mended = { sent->settings, bytes, LONGEST, sent->has_lab_keys };
 	size_t n = mend(sent, refusal, bytes);
 
 	while (n < sent->len) {

@@ -24,6 +24,7 @@ struct fields_sent {
 	qg_settings settings;
 	const uint8_t *at;
 	size_t len;
+	bool has_lab_keys;  /* it is answered with lab keys and not with a key box's blocks */
 };
 
 struct fields_one {

@@ -1,12 +1,13 @@
 /*
  * labhost play FILE...: plays class scripts through the asking and the
- * answering call, prints every exchange, and says where one went otherwise
+ * answering call, or through qg_lab_answer where they have lab keys, prints
+ * every exchange and every PIN that is sealed, and says where one went otherwise
  * than the script expects. The last line is 'lessons: N passed, M failed',
- * counted in exchanges.
+ * counted in exchanges and sealed PINs.
  *
  * labhost record FILE: writes the script to stdout with what the calls do
- * today in its `asks` and `answers` lines, and everything else as it was, but
- * for blanks and carriage returns at the end of a line. A recorded script says
+ * today in its `asks`, `answers` and `sealed` lines, and everything else as it
+ * was, but for blanks and carriage returns at the end of a line. A recorded script says
  * what the box does: that it is right, only a reading of the paper says.
  *
  * labhost explain [OPTION]... [COMMAND]: tells of one command, field by field,
@@ -23,6 +24,7 @@
 #include <string.h>
 
 #include "explain.h"
+#include "lab_keys.h"
 #include "player.h"
 #include "script.h"
 
@@ -62,16 +64,23 @@ static bool check(const char *path, bool may_be_open)
 	return step == SCRIPT_END;
 }
 
-static void play_exchange(const char *path, struct score *score)
+/* Plays what a line is the last of, under its name. */
+static void play_step(const char *path, const char *name,
+	bool (*play_it)(const struct script_exchange *e), struct score *score)
 {
-	const char *name = script.now.name;
-
-	printf("%s:%u: %s\n", path, script.line, name[0] != '\0' ? name : "without a name");
-	if (player_play(&script.now))
+	printf("%s:%u: %s\n", path, script.line, name);
+	if (play_it(&script.now))
 		score->passed++;
 	else
 		score->failed++;
 	putchar('\n');
+}
+
+static void play_exchange(const char *path, struct score *score)
+{
+	const char *name = script.now.name;
+
+	play_step(path, name[0] != '\0' ? name : "without a name", player_play, score);
 }
 
 /* A script that was well formed when it was checked is not any more. */
@@ -90,6 +99,8 @@ static bool play_file(const char *path, struct score *score)
 		return tell_changed(path);
 	do {
 		step = script_next(&script);
+		if (step == SCRIPT_SEALED)
+			play_step(path, "a PIN is sealed", lab_keys_seal, score);
 		if (step == SCRIPT_ANSWERS)
 			play_exchange(path, score);
 	} while (step != SCRIPT_END && step != SCRIPT_FAULT);
@@ -118,10 +129,12 @@ static int play(char **paths, int len)
 /* Writes the line that was read, with another expectation where it has one. */
 static void record_line(enum script_step step)
 {
-	bool expects = step == SCRIPT_ASKS || step == SCRIPT_ANSWERS;
+	bool expects = step == SCRIPT_ASKS || step == SCRIPT_ANSWERS || step == SCRIPT_SEALED;
 	size_t kept = expects ? (size_t)(script.rest - script.text) : strlen(script.text);
 
 	fwrite(script.text, 1, kept, stdout);
+	if (step == SCRIPT_SEALED)
+		lab_keys_write_sealed(&script.now);
 	if (step == SCRIPT_ASKS)
 		player_write_asked(&script.now);
 	if (step == SCRIPT_ANSWERS)

@@ -150,7 +150,8 @@ void names_show_place(const struct fields_sent *sent, const qg_reply *refusal, i
 	else if (refusal->place < sent->len)
 		printf(": left over");
 	else
-		printf(": a block of the key box is not 8 bytes");
+		printf(sent->has_lab_keys ? ": a lab key has neither 16 bytes nor 24" :
+			": a block of the key box is not 8 bytes");
 	if (fields_disagree(sent, refusal))
 		printf(": the LMK ids disagree, and this is the last");
 	printf("%s\n", colour_plain());

@@ -3,8 +3,10 @@
 #include <stdio.h>
 #include <string.h>
 
+#include "lab_keys.h"
 #include "meanings.h"
 #include "names.h"
+#include "quillgimlet_lab.h"
 #include "text.h"
 #include "underline.h"
 
@@ -36,6 +38,11 @@ static void ask(const struct script_exchange *e, struct outcome *outcome)
 static void answer(const struct script_exchange *e, struct outcome *outcome)
 {
 	memset(outcome->out, UNTOUCHED, sizeof outcome->out);
+	if (script_is_lab(e)) {
+		outcome->reply = qg_lab_answer(e->settings, SENT(e), e->pin_key.at, e->pin_key.len,
+			e->pvk.at, e->pvk.len, outcome->out, e->room);
+		return;
+	}
 	outcome->reply = qg_answer(e->settings, e->pin_key_parity_good,
 		e->pvk_parity_good, SENT(e), e->block.at, e->block.len,
 		e->enciphered.at, e->enciphered.len, outcome->out, e->room);
@@ -58,7 +65,7 @@ static bool is_placed(const qg_reply *reply)
 static void show_place(const struct script_exchange *e, const qg_reply *reply,
 	const qg_reply *before)
 {
-	struct fields_sent sent = { e->settings, SENT(e) };
+	struct fields_sent sent = { e->settings, SENT(e), script_is_lab(e) };
 
 	if (!fields_is_placed(&sent, reply) ||
 		(before != NULL && before->place == reply->place && before->field == reply->field))
@@ -114,10 +121,23 @@ static void show_slice(const char *name, const struct script_slice *slice, int i
 
 void player_show_key_box(const struct script_exchange *e, int indent)
 {
+	if (script_is_lab(e))
+		lab_keys_show(e, indent);
 	show_slice("block", &e->block, indent);
 	show_slice("enciphered", &e->enciphered, indent);
-	printf("%*s%-11s %s %s\n", indent, "", "parity", good_or_bad(e->pin_key_parity_good),
-		good_or_bad(e->pvk_parity_good));
+	if (!script_is_lab(e))
+		printf("%*s%-11s %s %s\n", indent, "", "parity", good_or_bad(e->pin_key_parity_good),
+			good_or_bad(e->pvk_parity_good));
+}
+
+/* Shows the key box's answers, or those of one that had the lab keys. */
+static void show_key_box(const struct script_exchange *e)
+{
+	struct script_exchange made = *e;
+
+	if (script_is_lab(e))
+		lab_keys_make(&made);
+	player_show_key_box(&made, LEFT);
 }
 
 static void show_byte(uint8_t byte)
@@ -192,6 +212,12 @@ static bool hold(const char *name, const struct outcome *outcome,
 	return number && place && length && bytes;
 }
 
+/* A class without a key box need not say what one would be asked. */
+static bool hold_asked(const struct outcome *asked, const struct script_expected *expected)
+{
+	return !expected->given || hold("asks", asked, expected);
+}
+
 /* Writes a place in the form of the script's lines. */
 static void write_place(uint32_t place, uint32_t field)
 {
@@ -221,10 +247,10 @@ bool player_play(const struct script_exchange *e)
 	show_handed(e);
 	show_outcome("asks", &asked, text_show_hex);
 	show_place(e, &asked.reply, NULL);
-	player_show_key_box(e, LEFT);
+	show_key_box(e);
 	show_outcome("answers", &answered, text_show);
 	show_place(e, &answered.reply, &asked.reply);
-	bool asked_well = hold("asks", &asked, &e->asks);
+	bool asked_well = hold_asked(&asked, &e->asks);
 	if (!asked_well)
 		show_expected("asks", &e->asks, text_show_hex);
 	bool answered_well = hold("answers", &answered, &e->answers);

@@ -11,8 +11,8 @@
 bool player_play(const struct script_exchange *e);
 
 /* Print of an exchange, in the same words for all that show one, the settings,
- * without an end of line, and the key box's answers, in lines that stand so far
- * from the left. */
+ * without an end of line, and the key box's answers, behind the lab keys where it
+ * has them, in lines that stand so far from the left. */
 void player_show_settings(const struct script_exchange *e);
 void player_show_key_box(const struct script_exchange *e, int indent);
 

@@ -3,11 +3,13 @@
 #include <string.h>
 
 #include "script_expected.h"
+#include "script_lab.h"
 #include "text.h"
 
 /* When a line of a kind may stand. */
 enum place {
 	PLACE_BEFORE_ASKS,  /* what the asking call is handed */
+	PLACE_KEY_BOX,      /* what the key box answers: not while lab keys are set */
 	PLACE_ANY,
 };
 
@@ -101,7 +103,7 @@ static const char *take_command(struct script *script, const char *rest)
 	return take_more(script, rest);
 }
 
-static const char *take_slice(const char *rest, struct script_slice *slice)
+const char *script_take_slice(const char *rest, struct script_slice *slice)
 {
 	struct text_bytes bytes = { slice->at, 0, SCRIPT_SLICE };
 	const char *fault = text_read_hex(rest, &bytes);
@@ -113,12 +115,12 @@ static const char *take_slice(const char *rest, struct script_slice *slice)
 
 static const char *take_block(struct script *script, const char *rest)
 {
-	return take_slice(rest, &script->now.block);
+	return script_take_slice(rest, &script->now.block);
 }
 
 static const char *take_enciphered(struct script *script, const char *rest)
 {
-	return take_slice(rest, &script->now.enciphered);
+	return script_take_slice(rest, &script->now.enciphered);
 }
 
 /* Reads good or bad and moves behind it. */
@@ -152,9 +154,14 @@ static const struct kind kinds[] = {
 	{ "room", PLACE_BEFORE_ASKS, SCRIPT_OTHER, take_room },
 	{ "command", PLACE_BEFORE_ASKS, SCRIPT_OTHER, take_command },
 	{ "more", PLACE_BEFORE_ASKS, SCRIPT_OTHER, take_more },
-	{ "block", PLACE_ANY, SCRIPT_OTHER, take_block },
-	{ "enciphered", PLACE_ANY, SCRIPT_OTHER, take_enciphered },
-	{ "parity", PLACE_ANY, SCRIPT_OTHER, take_parity },
+	{ "block", PLACE_KEY_BOX, SCRIPT_OTHER, take_block },
+	{ "enciphered", PLACE_KEY_BOX, SCRIPT_OTHER, take_enciphered },
+	{ "parity", PLACE_KEY_BOX, SCRIPT_OTHER, take_parity },
+	{ "pinkey", PLACE_ANY, SCRIPT_OTHER, script_take_pinkey },
+	{ "pvk", PLACE_ANY, SCRIPT_OTHER, script_take_pvk },
+	{ "keybox", PLACE_ANY, SCRIPT_OTHER, script_take_keybox },
+	{ "seal", PLACE_ANY, SCRIPT_OTHER, script_take_seal },
+	{ "sealed", PLACE_ANY, SCRIPT_SEALED, script_take_sealed },
 	{ "asks", PLACE_ANY, SCRIPT_ASKS, script_take_asks },
 	{ "answers", PLACE_ANY, SCRIPT_ANSWERS, script_take_answers },
 };
@@ -191,6 +198,18 @@ static void begin_exchange(struct script *script)
 	script->begun = false;
 }
 
+/* Why a line of a kind may not stand here, or NULL. */
+static const char *misplaced(const struct script *script, const struct kind *kind)
+{
+	const struct script_exchange *now = &script->now;
+
+	if (kind->place == PLACE_BEFORE_ASKS && now->asks.given)
+		return "this cannot change between asks and answers";
+	if (kind->place == PLACE_KEY_BOX && (now->pin_key.given || now->pvk.given))
+		return "lab keys are set, and no key box is asked: a keybox line puts them away";
+	return NULL;
+}
+
 /* Takes a line that is neither blank nor a comment. */
 static enum script_step take_line(struct script *script, const char *word)
 {
@@ -201,12 +220,13 @@ static enum script_step take_line(struct script *script, const char *word)
 		return refuse_word(script, word, len);
 	if (script->now.answers.given)
 		begin_exchange(script);
-	if (kind->place == PLACE_BEFORE_ASKS && script->now.asks.given)
-		return refuse(script, "this cannot change between asks and answers");
+	const char *fault = misplaced(script, kind);
+	if (fault != NULL)
+		return refuse(script, fault);
 	if (kind->take != take_more && kind->take != take_command)
 		script->in_command = false;
 	script->rest = word + len + strspn(word + len, TEXT_BLANKS);
-	const char *fault = kind->take(script, script->rest);
+	fault = kind->take(script, script->rest);
 	if (fault != NULL)
 		return refuse(script, fault);
 	script->begun = kind->step != SCRIPT_ANSWERS;

@@ -8,13 +8,24 @@
  *   header N              settings: the header's length,
  *   restricted yes|no     restricted formats,
  *   variable yes|no       variable length offset
- *   room N                how many bytes of output both calls are lent, 0 to
+ *   room N                how many bytes of output each call is lent, 0 to
  *                         128; without this line 128
  *   command TEXT          what the host sends
  *   more TEXT             the command goes on
  *   block HEX             the key box's PIN block, deciphered
  *   enciphered HEX        the key box's validation block, enciphered
  *   parity PIN PVK        good or bad, for either key; at first good good
+ *   pinkey HEX            a class without a key box: the lab key that PIN blocks
+ *   pvk HEX               are under, and that of the validation data, each of
+ *                         any length up to 40 bytes
+ *   keybox                puts the lab keys away: the key box answers again, with
+ *                         what was said of it last
+ *   seal FORMAT PIN ACCOUNT FILL
+ *                         a PIN to be sealed under the pinkey: written into a
+ *                         block of the format and enciphered. The fill is 8
+ *                         bytes in hex, and 00 throughout where it is left out
+ *   sealed HEX            expected of that: the sealed block, or the number of a
+ *   sealed N              refusal
  *   asks HEX              expected of the asking call: the block that it
  *   asks N                writes, or the number of its refusal
  *   asks N at P field F   the number with the place and the field that the
@@ -38,6 +49,16 @@
  * stays until it is changed, so that a lesson can change one thing at a time.
  * What the asking call is handed cannot change between `asks` and `answers`.
  * Both may be given as ? in a script that is to be recorded.
+ *
+ * While both lab keys are set, the answering call of an exchange is
+ * qg_lab_answer and no key box is asked: the lines block, enciphered and parity
+ * have no place then, and an exchange needs no `asks` line. Where it has one it
+ * is held to it. One lab key without the other answers nothing.
+ *
+ * A `seal` line is followed by its `sealed` line, which may be ? too. The block
+ * goes into a command as any other characters do: by a line that says them. So a
+ * script shows what stands on the line to the host, and a block that was sealed
+ * under another key can be sent.
  */
 #ifndef HOST_SCRIPT_H
 #define HOST_SCRIPT_H
@@ -62,8 +83,12 @@
 /* More than the 4,096 bytes that have a frame. */
 #define SCRIPT_COMMAND 8192
 
-/* More than the 8 bytes that a block must have. */
-#define SCRIPT_SLICE 16
+/* More than the 8 bytes that a block must have, and the 24 of the longest lab
+ * key. */
+#define SCRIPT_SLICE 40
+
+/* More than the PIN, the account or the fill of a block has. */
+#define SCRIPT_WORD 32
 
 struct script_slice {
 	uint8_t at[SCRIPT_SLICE];
@@ -83,6 +108,19 @@ struct script_expected {
 	bool given;
 };
 
+/* A PIN that is to be sealed, and what is expected of that. */
+struct script_seal {
+	bool given;  /* its sealed line is to come */
+	uint32_t format;
+	uint8_t pin[SCRIPT_WORD];
+	size_t pin_len;
+	uint8_t account[SCRIPT_WORD];
+	size_t account_len;
+	uint8_t fill[SCRIPT_WORD];
+	size_t fill_len;
+	struct script_expected sealed;
+};
+
 struct script_exchange {
 	char name[SCRIPT_NAME];
 	qg_settings settings;
@@ -94,12 +132,16 @@ struct script_exchange {
 	struct script_slice enciphered;
 	uint8_t pin_key_parity_good;
 	uint8_t pvk_parity_good;
+	struct script_slice pin_key;
+	struct script_slice pvk;
+	struct script_seal seal;
 	struct script_expected asks;
 	struct script_expected answers;
 };
 
 enum script_step {
-	SCRIPT_OTHER,    /* a line that is neither of the two below */
+	SCRIPT_OTHER,    /* a line that is none of the three below */
+	SCRIPT_SEALED,   /* a PIN can be sealed */
 	SCRIPT_ASKS,     /* the asking call can be made */
 	SCRIPT_ANSWERS,  /* the exchange is whole */
 	SCRIPT_END,
@@ -121,6 +163,9 @@ struct script {
 	unsigned exchanges;
 	struct script_exchange now;
 };
+
+/* Whether the exchange has both lab keys, so that no key box is asked. */
+bool script_is_lab(const struct script_exchange *e);
 
 /* Readies a script of which nothing is read yet. */
 void script_begin(struct script *script, bool may_be_open);

@@ -14,13 +14,13 @@
 /* A place may be as long as the longest command. */
 #define PLACE_FIGURES 4
 
-static bool is_open(const char *rest)
+bool script_is_open(const char *rest)
 {
 	return strcmp(rest, "?") == 0;
 }
 
 /* An open expectation can be recorded, but nothing can be held to it. */
-static const char *take_open(const struct script *script)
+const char *script_take_open(const struct script *script)
 {
 	return script->may_be_open ? NULL : "? can be recorded but not played";
 }
@@ -73,8 +73,8 @@ const char *script_take_asks(struct script *script, const char *rest)
 	if (!script->now.command_given)
 		return "asks: no command line stands before it";
 	asks->given = true;
-	if (is_open(rest))
-		return take_open(script);
+	if (script_is_open(rest))
+		return script_take_open(script);
 	bool numbered = text_read_number(&behind, TEXT_FIGURES, &asks->number);
 	/* no hex has a small letter: what goes on with one says a place */
 	if (numbered && (*behind == '\0' || behind[strspn(behind, TEXT_BLANKS)] == SCRIPT_AT[0]))
@@ -105,8 +105,8 @@ static const char *take_response(struct script *script, const char *rest)
 	struct text_bytes bytes = { answers->bytes, 0, SCRIPT_ROOM };
 
 	answers->given = true;
-	if (is_open(rest))
-		return take_open(script);
+	if (script_is_open(rest))
+		return script_take_open(script);
 	if (skip_word(&rest, SCRIPT_AT) && !read_place(&rest, answers))
 		return "answers: behind at stand a place, field and a number; "
 			"a response that begins so is written \\x61t";
@@ -122,15 +122,29 @@ static const char *take_response(struct script *script, const char *rest)
 	return fault;
 }
 
-const char *script_take_answers(struct script *script, const char *rest)
+/* Why nobody can answer, or NULL: there are both lab keys, or the key box's
+ * answers beside what it was asked. */
+static const char *hold_answerer(const struct script_exchange *now)
 {
-	const struct script_exchange *now = &script->now;
-
+	if (!now->command_given)
+		return "answers: no command line stands before it";
+	if (now->seal.given)
+		return "answers: the seal line before it has no sealed line";
+	if (script_is_lab(now))
+		return NULL;
+	if (now->pin_key.given || now->pvk.given)
+		return now->pvk.given ? "answers: a pvk line stands before it and no pinkey line" :
+			"answers: a pinkey line stands before it and no pvk line";
 	if (!now->asks.given)
 		return "answers: this exchange has no asks line";
-	if (!script->alone && !now->block.given)
+	if (!now->block.given)
 		return "answers: no block line stands before it";
-	if (!script->alone && !now->enciphered.given)
-		return "answers: no enciphered line stands before it";
-	return take_response(script, rest);
+	return now->enciphered.given ? NULL : "answers: no enciphered line stands before it";
+}
+
+const char *script_take_answers(struct script *script, const char *rest)
+{
+	const char *fault = script->alone ? NULL : hold_answerer(&script->now);
+
+	return fault != NULL ? fault : take_response(script, rest);
 }
