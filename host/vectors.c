@@ -1,7 +1,7 @@
 /*
  * vectors: the printed examples of the papers and of the requests, each beside
- * the name of the place that prints it, and what must follow from them, played
- * through the C face. The last line is 'vectors: N passed, M failed'.
+ * the name of the place that prints it, what must follow from them, and NIST's
+ * known answers for DES, played through the C face. The last line is 'vectors: N passed, M failed'.
  */
 #include "vectors.h"
 

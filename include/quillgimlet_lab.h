@@ -42,8 +42,9 @@
  *    15   also a key of a length that the call does not take, or a block that
  *         is not 8 bytes
  *
- * The calls but qg_lab_answer are below the command level: for any number but
- * 00 they write nothing, `written` is 0, and `place` and `field` are 0 always.
+ * qg_odd_parity answers yes or no and has no reply. The others but qg_lab_answer
+ * are below the command level: for any number but 00 they write nothing and
+ * `written` is 0, and `place` and `field` are 0 always.
  */
 
 #ifndef QUILLGIMLET_LAB_H
