@@ -91,7 +91,11 @@ pub fn pin_block(settings: Settings, command: &[u8], out: &mut [u8]) -> Told
     ensures { λ r. ⌜ Does (quietly (extracted settings (now (command .entry)) (length (now (out .entry))))) (now (out .entry)) (r .reply) (now (out .exit)) × (r .pointer ≡ shown (extracting settings (now (command .entry)) (length (now (out .entry))))) ⌝ }
 {
     let extracted = extracting(settings, command, out.len());
-    responses::ask(extracted, out)
+    // Not by `responses::ask`: while the asking call alone has it, the compiler writes it in there, and a refusal is answered sooner.
+    Told {
+        reply: answers::answer(extracted.row(), out),
+        pointer: extracted.pointer(),
+    }
 }
 
 // The answering call by the command's code, whose place is given.

@@ -15,16 +15,18 @@ use Rattle.numbers.specs.Promise.{Does}
 use Rattle.numbers.specs.declared.Refusal.{Refusal}
 use Rattle.numbers.specs.declared.Reply.{Reply}
 use Rattle.pins.specs.declared.Pin.{Pin}
-use Rattle.answers.specs.Answers.{blockOf, digitsOf}
+use Rattle.answers.specs.Answers.{blockOf, bytesOf, Roomy, digitsOf}
 use Rattle.answers.proofs.Laws.{Sixteen, sixteen-word, sixteen-nibs}
 use Rattle.offsettexts.specs.OffsetTexts.{offsetText}
 use Rattle.offsettexts.proofs.Laws.{text-length}
 use Rattle.frame.specs.Frame.{opening}
 use Rattle.frame.proofs.Laws.{over-lent, opening-length}
-use Rattle.fields.specs.Fields.{Ruling, unpointed}
+use Rattle.fields.specs.Fields.{Ruling, unpointed, heard}
 use Rattle.responses.specs.Responses as paper
 use Rattle.responses.specs.Responses.{payloadText, answerText, responding}
-use Rattle.responses.specs.Answers.{askedRow, askedOf, askedBytes, RoomToAsk, payloadOf, answeredOf, answeredText, carried, Short, Writable}
+use Rattle.responses.specs.Answers.{askedRow, rowIn, askedOf, askedBytes, RoomToAsk, payloadOf, answeredOf, answeredText, carried, Short, Writable}
+use Rattle.responses.specs.declared.Asked.{Asked}
+use Rattle.responses.specs.declared.Asked.the-variants as asked
 use Rattle.responses.specs.declared.Payload.{Payload}
 use Rattle.responses.specs.declared.Payload.the-variants.{Offset, Nothing}
 
@@ -49,6 +51,15 @@ asked-bytes (refused f) room b = refl
 pub asked-roomy : (o : Ruling (List ℕ)) (room : ℕ) → Blocky o room → RoomToAsk (askedOf o) room
 asked-roomy (done bs) room b = b bs refl .0
 asked-roomy (refused f) room b = tt
+
+-- as a row it says the same, and has the same room
+pub row-says : (asked : Asked) → bytesOf (rowIn asked) ≡ heard (askedBytes asked)
+row-says (asked.Block w) = refl
+row-says (asked.Bad f) = refl
+
+pub row-roomy : (asked : Asked) (room : ℕ) → RoomToAsk asked room → Roomy (rowIn asked) room
+row-roomy (asked.Block w) room h = h
+row-roomy (asked.Bad f) room h = tt
 
 -- ---- the answering call
 

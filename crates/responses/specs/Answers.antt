@@ -33,6 +33,11 @@ abbrev pub askedRow : Row → Asked
 askedRow (Held w) = asked.Block w
 askedRow (Refused q) = asked.Bad (record { refusal = q; field = 0; place = 0 })
 
+-- the row, or the refusal
+abbrev pub rowIn : Asked → Row
+rowIn (asked.Block w) = Held w
+rowIn (asked.Bad f) = Refused (f .refusal)
+
 abbrev pub askFault : Asked → Fault
 askFault (asked.Block w) = noFault
 askFault (asked.Bad f) = f

@@ -7,7 +7,7 @@ ghost use Rattle.numbers.specs.Promise.{Does, quietly};
 ghost use Rattle.numbers.specs.Numbers.{numberOf};
 ghost use Rattle.fields.specs.Fields.{heard, nowhere, shown};
 ghost use Rattle.responses.specs.Responses.{responding};
-ghost use Rattle.responses.specs.Answers.{askedRow, askFault, askedBytes, RoomToAsk, answerFault, carried, answeredText, Short, Brief, Writable, Responding};
+ghost use Rattle.responses.specs.Answers.{askedRow, rowIn, askFault, askedBytes, RoomToAsk, answerFault, carried, answeredText, Short, Brief, Writable, Responding};
 use fields::Fault;
 use fields::Pointer;
 use numbers::Refusal;
@@ -59,6 +59,29 @@ impl Asked {
         match row {
             Row::Held(block) => Asked::Block(block),
             Row::Refused(refusal) => Asked::Bad(fields::unpointed(refusal)),
+        }
+    }
+
+    // The block as a row, or the refusal.
+    pub fn row(self) -> Row
+        ensures { λ r. ⌜ r ≡ rowIn self ⌝ }
+    {
+        match self {
+            Asked::Block(block) => Row::Held(block),
+            Asked::Bad(fault) => {
+                let refusal = fault.refusal;
+                Row::Refused(refusal)
+            }
+        }
+    }
+
+    // What the server is shown of it.
+    pub fn pointer(self) -> Pointer
+        ensures { λ r. ⌜ r ≡ shown (askedBytes self) ⌝ }
+    {
+        match self {
+            Asked::Block(_) => Pointer::NOWHERE,
+            Asked::Bad(fault) => fault.pointer(),
         }
     }
 
