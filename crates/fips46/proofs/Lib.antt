@@ -1,3 +1,4 @@
 pub mod Rows
 pub mod Iterations
 pub mod Undo
+pub mod ParityBits

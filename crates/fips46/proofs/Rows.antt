@@ -2,12 +2,14 @@
 -- Assumes nothing.
 use mathlib.Core.Path.{_≡_, refl}
 use mathlib.Core.Bool.{Bool, true, false, _&&_}
+use mathlib.Core.Logic.{_⊎_, inl, inr}
 use mathlib.Core.List.{List, [], _∷_}
 use Prim.Native.Nat.{ℕ, zero, suc, _+_, _-_, _*_, _/_, _%_, _<_}
+use native.Mathlib.Nat.{eq-or-lt-of-le, le-of-suc-le-suc}
 use native.Mathlib.Omega.{arith}
 use lib.Dec.{eqb, ltb}
 use lib.ListN.{length, getD}
-use borrow.Author.Tests.{ltb-true}
+use borrow.Author.Tests.{eqb-true, ltb-true}
 use Rattle.nibbles.proofs.Lists.{and-left, and-right}
 use Rattle.fips46.specs.Fips46.{S1, S2, S3, S4, S5, S6, S7, S8, boxes, S}
 
@@ -80,3 +82,38 @@ boxes-below (b ∷ bs) t (suc n) i j = boxes-below bs (and-right (isBox b) (areB
 pub S-below : (n b : ℕ) → S n b < 16
 unfolding S
 S-below n b = boxes-below boxes boxes-hold (n - 1) (b / 32 % 2 * 2 + b % 2) (b / 2 % 16)
+
+-- ---- and to each row
+
+box-at : (bs : List (List (List ℕ))) → areBoxes bs ≡ true → (n : ℕ) → n < length bs → isBox (getD bs n []) ≡ true
+box-at [] t n h = absurd (omega arith)
+box-at (b ∷ bs) t zero h = and-left (isBox b) (areBoxes bs) t
+box-at (b ∷ bs) t (suc n) h = box-at bs (and-right (isBox b) (areBoxes bs) t) n (omega arith)
+
+once-at : (n : ℕ) (row : List ℕ) → onceEach n row ≡ true → (v : ℕ) → v < n → count v row ≡ 1
+once-at zero row t v h = absurd (omega arith)
+once-at (suc n) row t v h = choose (eq-or-lt-of-le (le-of-suc-le-suc h)) (λ l. once-at n row (and-right (eqb (count n row) 1) (onceEach n row) t) v l)
+  where
+    choose : (v ≡ n) ⊎ (v < n) → (v < n → count v row ≡ 1) → count v row ≡ 1
+    choose (inl e) below = rw e (eqb-true (count n row) 1 (and-left (eqb (count n row) 1) (onceEach n row) t))
+    choose (inr l) below = below l
+
+-- row i of box n, both counted from 0
+abbrev pub rowOf : ℕ → ℕ → List ℕ
+rowOf n i = getD (getD boxes n []) i []
+
+-- sixteen numbers, in which each below 16 stands once
+module _ (n i : ℕ) (hn : n < 8) (hi : i < 4) where
+  row-is : isRow (rowOf n i) ≡ true
+  unfolding boxes
+  row-is =
+      let box : List (List ℕ) = getD boxes n [] in
+      let t : isBox box ≡ true = box-at boxes boxes-hold n hn in
+      let four : length box ≡ 4 = eqb-true (length box) 4 (and-left (eqb (length box) 4) (areRows box) t) in
+      row-at box (and-right (eqb (length box) 4) (areRows box) t) i (omega arith)
+
+  pub row-long : length (rowOf n i) ≡ 16
+  row-long = eqb-true (length (rowOf n i)) 16 (and-left (eqb (length (rowOf n i)) 16) (allBelow 16 (rowOf n i) && onceEach 16 (rowOf n i)) row-is)
+
+  pub row-once : (v : ℕ) → v < 16 → count v (rowOf n i) ≡ 1
+  row-once = once-at 16 (rowOf n i) (and-right (allBelow 16 (rowOf n i)) (onceEach 16 (rowOf n i)) (and-right (eqb (length (rowOf n i)) 16) (allBelow 16 (rowOf n i) && onceEach 16 (rowOf n i)) row-is))
