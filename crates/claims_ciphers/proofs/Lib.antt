@@ -1,0 +1,5 @@
+pub mod Undone
+pub mod Keys
+pub mod Refusals
+pub mod Rows
+pub mod ParityBits

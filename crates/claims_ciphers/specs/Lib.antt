@@ -1,0 +1,5 @@
+pub mod Undone
+pub mod ParityBits
+pub mod Keys
+pub mod Refusals
+pub mod Rows

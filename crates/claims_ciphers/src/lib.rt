@@ -1,0 +1,1 @@
+// What is claimed of DES, triple DES, check values and odd parity, as laws over the definitions that the promises cite.
