@@ -24,6 +24,10 @@ ending (suc k) b = (tt, ending k b)
 pub settled : {A E : Type 0} {d r r′ : A} {e : E} → r ≡ d → r′ ≡ d → (r ≡ r′) × (e ≡ e)
 settled p q = (p ∙ sym q, refl)
 
+-- so where a fact is promised beside it
+pub settled-beside : {A E F : Type 0} {d r r′ : A} {e : E} → (r ≡ d) × F → (r′ ≡ d) × F → (r ≡ r′) × (e ≡ e)
+settled-beside {e = e} p q = settled {e = e} (p .0) (q .0)
+
 -- a buffer that equals a definition, as a whole, and no answer
 pub left : {A : Type 0} {d b b′ : A} {u : Unit {0}} (k : ℕ) → b ≡ d → b′ ≡ d → (u ≡ u) × (ending k b ≡ ending k b′)
 left k p q = (refl, ap (ending k) (p ∙ sym q))
