@@ -5,20 +5,22 @@ use native.Mathlib.Omega.{arith}
 use mathlib.Core.Path.{_≡_, refl, _∙_, ap, sym}
 use mathlib.Core.Bool.{Bool, true, false, _||_, false≢true}
 use mathlib.Core.Logic.{_↔_, _⊎_, inl, inr, _≢_}
-use mathlib.Core.List.{List}
-use lib.Dec.{eqb}
+use mathlib.Core.List.{List, _++_}
+use lib.Dec.{leb, eqb}
 use lib.ListN.{length, take, replicate}
+use lib.Seq.{take-at, length-take-le}
 use borrow.Author.Tests.{eq-eqb, ne-eqb, eqb-true, eqb-false}
-use Rattle.numbers.specs.Numbers.{Outcome, done, refused}
+use Rattle.numbers.specs.Numbers.{Outcome, done, refused, unless}
 use Rattle.numbers.specs.declared.Refusal.{Refusal}
-use Rattle.numbers.specs.declared.Refusal.the-variants.{Field15}
+use Rattle.numbers.specs.declared.Refusal.the-variants.{Field15, Room901}
+use Rattle.numbers.proofs.Laws.{then-done, passed, value-of}
 use Rattle.words.proofs.Words.{length-bytes}
 use Rattle.ciphers.specs.Ciphers.{isLabKey, desBlock, tripleBlock}
 use Rattle.ciphers.specs.declared.Way.{Way}
 use Rattle.ciphers.specs.declared.Way.the-variants.{Encipher}
-use Rattle.ciphercalls.specs.CipherCalls.{ciphered, desCall, tripleCall, keyCheck}
+use Rattle.ciphercalls.specs.CipherCalls.{keyed, ciphered, desCall, tripleCall, zeros, checkValue, keyCheck}
 use Rattle.ciphercalls.proofs.Laws.{no-room, no-key, no-block, a-block, check-no-room, check-no-key, a-check}
-use Rattle.claims_ciphers.specs.Refusals.{NoLabKey, RoomFirst, DesRefused, TripleRefused, CheckRefused, CheckIsTheFirst}
+use Rattle.claims_ciphers.specs.Refusals.{NoLabKey, RoomFirst, DesRefused, TripleRefused, CheckRefused, CountsOfCiphers, CheckIsTheFirst}
 use Rattle.claims_ciphers.proofs.Undone.{call-done}
 
 pub room-first : RoomFirst
@@ -80,10 +82,25 @@ check-refused key room q h = exactly (keyCheck key room) (NoLabKey key) q (by (i
     by false e = inl (no-lab-key key .0 e, check-no-key key room h e)
     by true e = inr (λ n. false≢true (sym (no-lab-key key .1 n) ∙ e), (_, a-check key room h e))
 
--- ---- the check value
+-- ---- what is written
+
+check-done : (key written : List ℕ) (room : ℕ) → keyCheck key room ≡ done written → checkValue key ≡ written
+unfolding keyCheck
+check-done key written room e =
+    let (k, keyed-done, made) = then-done (keyed 3 isLabKey key room) _ written e in
+    let (_, _, is-key) = then-done (unless Room901 (leb 3 room) room) (λ _. unless Field15 (isLabKey key) key) k keyed-done in
+    ap checkValue (passed Field15 (isLabKey key) key k is-key .1) ∙ value-of made
+
+pub counts-of-ciphers : CountsOfCiphers
+unfolding desCall tripleCall
+counts-of-ciphers way key block written room = (
+  λ e. ap length (sym (call-done (λ k. eqb (length k) 8) (desBlock way) key block written room e .2)) ∙ length-bytes 8 _,
+  λ e. ap length (sym (call-done isLabKey (tripleBlock way) key block written room e .2)) ∙ length-bytes 8 _,
+  λ e. ap length (sym (check-done key written room e)) ∙ length-take-le 3 (tripleBlock Encipher key zeros) (rw length-bytes (omega arith)),
+)
 
 pub check-is-the-first : CheckIsTheFirst
 unfolding tripleCall
-check-is-the-first key written room room′ h e =
-    let (is-key, _, made) = call-done isLabKey (tripleBlock Encipher) key (replicate 8 0) written room′ e in
-    (ap length (sym made) ∙ length-bytes 8 _, a-check key room h is-key ∙ ap (λ (bytes : List ℕ). done (take 3 bytes)) made)
+check-is-the-first key first rest room room′ three h e =
+    let (is-key, _, made) = call-done isLabKey (tripleBlock Encipher) key (replicate 8 0) (first ++ rest) room′ e in
+    a-check key room h is-key ∙ ap (λ (bytes : List ℕ). done (take 3 bytes)) made ∙ ap done (take-at first rest 3 three)

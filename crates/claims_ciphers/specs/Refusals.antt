@@ -3,8 +3,8 @@
 use Prim.Native.Nat.{ℕ, _≤_, _<_}
 use mathlib.Core.Path.{_≡_}
 use mathlib.Core.Logic.{_↔_, _⊎_, _≢_}
-use mathlib.Core.List.{List}
-use lib.ListN.{length, take, replicate}
+use mathlib.Core.List.{List, _++_}
+use lib.ListN.{length, replicate}
 use Rattle.numbers.specs.Numbers.{done, refused}
 use Rattle.numbers.specs.declared.Refusal.{Refusal}
 use Rattle.numbers.specs.declared.Refusal.the-variants.{Field15, Room901}
@@ -36,7 +36,14 @@ TripleRefused = (way : Way) (key block : List ℕ) (room : ℕ) (q : Refusal) �
 abbrev pub CheckRefused : Type 0
 CheckRefused = (key : List ℕ) (room : ℕ) (q : Refusal) → 3 ≤ room → (keyCheck key room ≡ refused q) ↔ ((q ≡ Field15) × NoLabKey key)
 
+-- what is not refused writes eight bytes, and of a check value three
+abbrev pub CountsOfCiphers : Type 0
+CountsOfCiphers = (way : Way) (key block written : List ℕ) (room : ℕ)
+    → (desCall way key block room ≡ done written → length written ≡ 8)
+    × (tripleCall way key block room ≡ done written → length written ≡ 8)
+    × (keyCheck key room ≡ done written → length written ≡ 3)
+
 -- "the first 3 bytes of a block of zeros enciphered": of what triple DES writes of eight zeros under the key
 abbrev pub CheckIsTheFirst : Type 0
-CheckIsTheFirst = (key written : List ℕ) (room room′ : ℕ) → 3 ≤ room
-    → tripleCall Encipher key (replicate 8 0) room′ ≡ done written → (length written ≡ 8) × (keyCheck key room ≡ done (take 3 written))
+CheckIsTheFirst = (key first rest : List ℕ) (room room′ : ℕ) → length first ≡ 3 → 3 ≤ room
+    → tripleCall Encipher key (replicate 8 0) room′ ≡ done (first ++ rest) → keyCheck key room ≡ done first
