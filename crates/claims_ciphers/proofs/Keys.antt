@@ -1,8 +1,8 @@
 -- Triple DES by what DES makes under each key.
 -- Assumes nothing.
-use Prim.Native.Nat.{ℕ, _+_, _≤_}
+use Prim.Native.Nat.{ℕ, _+_}
 use native.Mathlib.Omega.{arith}
-use mathlib.Core.Path.{_≡_, refl, _∙_, ap, ap₂, sym}
+use mathlib.Core.Path.{_≡_, refl, _∙_, ap, sym}
 use mathlib.Core.Bool.{cond}
 use mathlib.Core.List.{List, _++_, append-assoc, reverse}
 use lib.Dec.{ltb}
@@ -15,7 +15,6 @@ use Rattle.ciphers.specs.Ciphers.{keyAt, thirdAt, desBlock, tripleWord, tripleB
 use Rattle.ciphers.specs.declared.Way.{Way}
 use Rattle.ciphers.specs.declared.Way.the-variants.{Encipher, Decipher}
 use Rattle.ciphers.proofs.Laws.{thrice-is-triple}
-use Rattle.claims_ciphers.specs.Undone.{IsBlock}
 use Rattle.claims_ciphers.specs.Keys.{three, OneAfterTheOther, FirstAgain, TwoAlike, OneKey}
 use Rattle.claims_ciphers.proofs.Undone.{word-back, made-block, des-undone}
 

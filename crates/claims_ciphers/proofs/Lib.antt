@@ -1,5 +1,6 @@
 pub mod Undone
 pub mod Keys
+pub mod ParityBits
 pub mod Refusals
 pub mod Rows
-pub mod ParityBits
+pub mod Tables

@@ -15,12 +15,12 @@ use Rattle.nibbles.proofs.Runs.{every-below}
 use Rattle.numbers.specs.Numbers.{done, andThen, unless}
 use Rattle.numbers.specs.declared.Refusal.the-variants.{Field15, Room901}
 use Rattle.fips46.specs.Fips46.{KS}
-use Rattle.fips46.proofs.ParityBits.{others, KS-alike}
+use Rattle.fips46.proofs.ParityBits.{KS-alike}
 use Rattle.words.specs.Words.{spelled, inBytes}
 use Rattle.words.proofs.Words.{spelled-lt}
-use Rattle.ciphers.specs.Ciphers.{keyAt, thirdAt, isLabKey, desBlock, tripleBlock}
+use Rattle.ciphers.specs.Ciphers.{keyAt, isLabKey, desBlock, tripleBlock}
 use Rattle.ciphers.specs.declared.Way.{Way}
-use Rattle.ciphers.specs.declared.Way.the-variants.{Encipher, Decipher}
+use Rattle.ciphers.specs.declared.Way.the-variants.{Encipher}
 use Rattle.ciphers.proofs.Laws.{once-is-des}
 use Rattle.ciphercalls.specs.CipherCalls.{ciphered, desCall, tripleCall, zeros, checkValue, keyCheck}
 use Rattle.claims_ciphers.specs.ParityBits.{SameButParity, DesBlind, TripleBlind, CallsBlind}

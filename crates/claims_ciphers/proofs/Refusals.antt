@@ -1,6 +1,6 @@
 -- What the calls of the ciphers refuse, judgement by judgement.
 -- Assumes nothing.
-use Prim.Native.Nat.{ℕ, _≤_, _<_}
+use Prim.Native.Nat.{ℕ, _≤_}
 use native.Mathlib.Omega.{arith}
 use mathlib.Core.Path.{_≡_, refl, _∙_, ap, sym}
 use mathlib.Core.Bool.{Bool, true, false, _||_, false≢true}
@@ -9,14 +9,13 @@ use mathlib.Core.List.{List, _++_}
 use lib.Dec.{leb, eqb}
 use lib.ListN.{length, take, replicate}
 use lib.Seq.{take-at, length-take-le}
-use borrow.Author.Tests.{eq-eqb, ne-eqb, eqb-true, eqb-false}
+use borrow.Author.Tests.{ne-eqb, eqb-true, eqb-false}
 use Rattle.numbers.specs.Numbers.{Outcome, done, refused, unless}
 use Rattle.numbers.specs.declared.Refusal.{Refusal}
 use Rattle.numbers.specs.declared.Refusal.the-variants.{Field15, Room901}
 use Rattle.numbers.proofs.Laws.{then-done, passed, value-of}
 use Rattle.words.proofs.Words.{length-bytes}
 use Rattle.ciphers.specs.Ciphers.{isLabKey, desBlock, tripleBlock}
-use Rattle.ciphers.specs.declared.Way.{Way}
 use Rattle.ciphers.specs.declared.Way.the-variants.{Encipher}
 use Rattle.ciphercalls.specs.CipherCalls.{keyed, ciphered, desCall, tripleCall, zeros, checkValue, keyCheck}
 use Rattle.ciphercalls.proofs.Laws.{no-room, no-key, no-block, a-block, check-no-room, check-no-key, a-check}

@@ -11,7 +11,7 @@ use lib.ListN.{length, getD}
 use borrow.Author.Tests.{eqb-true, eqb-false}
 use Rattle.fips46.specs.Fips46.{boxes, S}
 use Rattle.fips46.proofs.Rows.{count, rowOf, row-long, row-once}
-use Rattle.claims_ciphers.specs.Rows.{sixBits, OneColumn, RowsHoldEach}
+use Rattle.claims_ciphers.specs.Rows.{sixBits, RowsHoldEach}
 
 -- ---- what is counted once stands at one place
 

@@ -1,7 +1,6 @@
 -- Each way of a cipher undoes the other: of words FIPS 46-3's laws say it, and bytes and words are settled by each other.
 -- Assumes nothing.
 use Prim.Native.Nat.{ℕ, _*_, _^_, _<_, _≤_}
-use native.Mathlib.Omega.{arith}
 use native.Mathlib.Nat.{mod-eq-of-lt}
 use mathlib.Core.Path.{_≡_, refl, _∙_, ap, sym}
 use mathlib.Core.Bool.{Bool, true}
@@ -9,22 +8,20 @@ use mathlib.Core.List.{List, reverse}
 use lib.Dec.{leb, eqb}
 use lib.ListN.{length}
 use borrow.Author.Tests.{eq-eqb, eqb-true}
-use Rattle.nibbles.proofs.Lists.{Below}
 use Rattle.nibbles.proofs.Runs.{every-below, below-every}
-use Rattle.numbers.specs.Numbers.{Outcome, done, unless}
+use Rattle.numbers.specs.Numbers.{done, unless}
 use Rattle.numbers.specs.declared.Refusal.the-variants.{Field15, Room901}
 use Rattle.numbers.proofs.Laws.{then-done, passed, value-of}
 use Rattle.fips46.specs.Fips46.{KS, encipher, decipher, tripleEncipher, tripleDecipher}
 use Rattle.fips46.proofs.Undo.{computed-lt, des-undo, des-redo, triple-undo, triple-redo}
 use Rattle.words.specs.Words.{spelled, inBytes}
 use Rattle.words.proofs.Words.{length-bytes, bytes-below, spelled-lt, spelled-bytes, bytes-spelled}
-use Rattle.ciphers.specs.Ciphers.{desWord, desBlock, keyAt, thirdAt, tripleBlock, isLabKey}
-use Rattle.ciphers.specs.declared.Way.{Way}
+use Rattle.ciphers.specs.Ciphers.{desBlock, keyAt, thirdAt, tripleBlock, isLabKey}
 use Rattle.ciphers.specs.declared.Way.the-variants.{Encipher, Decipher}
 use Rattle.ciphercalls.specs.CipherCalls.{keyed, ciphered, desCall, tripleCall}
 use Rattle.ciphercalls.proofs.Laws.{a-block}
 use Rattle.claims_blocks.specs.Claims.{IsBytes}
-use Rattle.claims_ciphers.specs.Undone.{other, IsBlock, DesUndone, TripleUndone, CallUndone, CallsUndone}
+use Rattle.claims_ciphers.specs.Undone.{other, IsBlock, DesUndone, TripleUndone, CallsUndone}
 
 -- ---- blocks and words
 

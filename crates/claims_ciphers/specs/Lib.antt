@@ -3,3 +3,4 @@ pub mod ParityBits
 pub mod Keys
 pub mod Refusals
 pub mod Rows
+pub mod Tables
