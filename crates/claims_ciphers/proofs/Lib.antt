@@ -5,3 +5,4 @@ pub mod Refusals
 pub mod Rows
 pub mod Tables
 pub mod Figures
+pub mod Parity
