@@ -1,5 +1,4 @@
 // The calls of the ciphers: DES and triple DES of a block, either way, and the check value of a key.
-ghost use mathlib.Core.Path.{_≡_};
 ghost use lib.ListN.{length};
 ghost use Rattle.numbers.specs.Promise.{Does, quietly};
 ghost use Rattle.ciphercalls.specs.CipherCalls.{desCall, tripleCall, keyCheck};

@@ -1,13 +1,13 @@
 -- The boxes joined with P, box by box, are the cipher function: P goes with the exclusive or, and the boxes' four bits do not meet.
 -- Assumes nothing.
-use Prim.Native.Nat.{ℕ, _+_, _-_, _*_, _/_, _%_, _^_, _<_, _≤_}
+use Prim.Native.Nat.{ℕ, _+_, _-_, _*_, _^_, _<_, _≤_}
 use native.Mathlib.Omega.{arith}
 use native.Mathlib.Nat.{mul-one}
-use mathlib.Core.Path.{_≡_, refl, _∙_, ap, ap₂, sym, subst}
+use mathlib.Core.Path.{_≡_, _∙_, ap, ap₂, sym, subst}
 use lib.Bits.{bitXor, xor-shifted}
 use Rattle.bits.specs.Select.{select}
 use Rattle.bits.proofs.Linear.{itself, selects}
-use Rattle.fips46.specs.Fips46.{E, P, S, B, f, substituted}
+use Rattle.fips46.specs.Fips46.{E, P, S, B, f}
 use Rattle.sboxes.specs.Permuted.{permuted}
 use Rattle.cipherfunction.specs.Windows.{edged, window}
 use Rattle.cipherfunction.proofs.Windows.{window-is-B}

@@ -1,5 +1,5 @@
 -- DES and triple DES of a block of eight bytes, under keys of bytes, either way.
-use Prim.Native.Nat.{ℕ, _+_}
+use Prim.Native.Nat.{ℕ}
 use mathlib.Core.List.{List, reverse}
 use mathlib.Core.Bool.{Bool, _||_, cond}
 use lib.Dec.{eqb, ltb}

@@ -13,6 +13,8 @@ pub responses-once : ResponsesSettled
 responses-once = record {
   Told·refused = λ κs a r r′ ends ends′. told-refused;
   Asked·of = λ κs a r r′ ends ends′. settled;
+  Asked·row = λ κs a r r′ ends ends′. settled;
+  Asked·pointer = λ κs a r r′ ends ends′. settled;
   ask = λ κs a r r′ ends ends′. told 1;
   respond = λ κs a r r′ ends ends′. told 3;
 }

@@ -40,6 +40,8 @@ pub record KeyBoxSettled : Type 0 where
 pub record ResponsesSettled : Type 0 where
   pub Told·refused : Settled Responses.Told.refused.ended Responses.Told.refused.Reads.Learnt
   pub Asked·of : Settled Responses.Asked.of.ended Responses.Asked.of.Reads.Learnt
+  pub Asked·row : Settled Responses.Asked.row.ended Responses.Asked.row.Reads.Learnt
+  pub Asked·pointer : Settled Responses.Asked.pointer.ended Responses.Asked.pointer.Reads.Learnt
   pub ask : Settled Responses.ask.ended Responses.ask.Reads.Learnt
   pub respond : Settled Responses.respond.ended Responses.respond.Reads.Learnt
 

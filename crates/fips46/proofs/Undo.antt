@@ -4,10 +4,10 @@
 use mathlib.Core.Path.{_≡_, refl, _∙_, ap, ap₂, sym}
 use mathlib.Core.Bool.{true}
 use mathlib.Core.List.{List, [], _∷_, reverse, reverse-reverse}
-use Prim.Native.Nat.{ℕ, _+_, _*_, _/_, _%_, _^_, _<_}
+use Prim.Native.Nat.{ℕ, _^_, _<_}
 use native.Mathlib.Omega.{arith}
 use native.Mathlib.Nat.{mod-lt}
-use lib.Bits.{bitXor, xor-lt}
+use lib.Bits.{xor-lt}
 use lib.Pow.{pow-pos, split, shr-lt, high, low}
 use Rattle.bits.specs.Select.{select}
 use Rattle.bits.proofs.Select.{select-lt}

@@ -6,7 +6,7 @@ use Rattle.numbers.proofs.Laws.{does-as}
 use Rattle.pins.specs.declared.Row.{Row}
 use Rattle.answers.specs.Answers.{bytesOf, Roomy}
 use Rattle.fields.specs.Fields.{heard, shown}
-use Rattle.responses.specs.Answers.{RoomToAsk, askedBytes, askedOf}
+use Rattle.responses.specs.Answers.{RoomToAsk, askedBytes}
 use Rattle.responses.specs.declared.Asked.{Asked}
 use Rattle.responses.proofs.Laws.{asked-bytes, asked-roomy, row-says, row-roomy}
 use Rattle.commands.specs.Commands.{extracting}

@@ -1,6 +1,6 @@
 -- `des::backward` meets its contract.
 -- Assumes nothing.
-use Prim.Native.Nat.{ℕ, _-_, _≤_}
+use Prim.Native.Nat.{_-_, _≤_}
 use native.Mathlib.Omega.{arith}
 use mathlib.Core.List.{reverse}
 use mathlib.Core.Path.{_≡_, ap, _∙_, sym}

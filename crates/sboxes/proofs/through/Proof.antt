@@ -1,7 +1,6 @@
 -- `sboxes::through` meets its contract. That a box's number has four bits comes of its row.
 -- Assumes nothing.
 use Prim.Native.Nat.{_+_, _-_, _*_}
-use native.Mathlib.Omega.{arith}
 use mathlib.Core.Path.{ap, _∙_}
 use lib.ListN.{getD}
 use borrow.Author.Needs.{needs}
