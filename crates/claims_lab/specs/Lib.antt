@@ -1,2 +1,3 @@
 pub mod Product
 pub mod KeysJudged
+pub mod Sealing
