@@ -1,3 +1,4 @@
 pub mod Product
 pub mod KeysJudged
 pub mod Sealing
+pub mod Told
