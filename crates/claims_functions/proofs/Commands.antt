@@ -1,6 +1,6 @@
 -- One answer to every promise of the crates of commands: each function cites the law of its shape.
 -- Assumes nothing.
-use Rattle.claims_functions.specs.Commands.{KeyBoxSettled, ResponsesSettled, FrameSettled, FieldsSettled, LmkSettled, UsesSettled, KeyLengthsSettled, KeyBlocksSettled, KeysSettled, WeakSettled, WeakFieldSettled, FormatFieldSettled, ValidationFieldSettled, OffsetFieldSettled, KeyFieldsSettled, SealedSettled, OffsettingSettled, WeakListSettled, EndingsSettled, PairingSettled, BkFieldsSettled, BkFinishSettled, BkSettled, VerifyFieldsSettled, VerifyFinishSettled, VerifySettled, CommandsSettled}
+use Rattle.claims_functions.specs.Commands.{KeyBoxSettled, ResponsesSettled, FrameSettled, FieldsSettled, LmkSettled, UsesSettled, KeyLengthsSettled, KeyBlocksSettled, KeysSettled, WeakSettled, WeakFieldSettled, FormatFieldSettled, ValidationFieldSettled, OffsetFieldSettled, KeyFieldsSettled, SealedSettled, OffsettingSettled, WeakListSettled, EndingsSettled, PairingSettled, BkFieldsSettled, BkFinishSettled, BkSettled, VerifyFieldsSettled, VerifyFinishSettled, VerifySettled, CommandsSettled, LabSettled}
 use Rattle.claims_functions.proofs.Once.{settled, left, told, told-refused}
 
 pub key-box-once : KeyBoxSettled
@@ -164,3 +164,6 @@ commands-once = record {
   pin-block = λ κs a r r′ ends ends′. told 2;
   answer = λ κs a r r′ ends ends′. told 6;
 }
+
+pub lab-once : LabSettled
+lab-once = record { answer = λ κs a r r′ ends ends′. told 4 }

@@ -29,4 +29,11 @@ quillgimlet-once = record {
   qg-pvv-input = λ κs a r r′ ends ends′. widely 4;
   qg-pvv = λ κs a r r′ ends ends′. widely 1;
   qg-pvv-verdict = λ κs a r r′ ends ends′. wide-verdict;
+  qg-des-encipher = λ κs a r r′ ends ends′. widely 2;
+  qg-des-decipher = λ κs a r r′ ends ends′. widely 2;
+  qg-tdes-encipher = λ κs a r r′ ends ends′. widely 2;
+  qg-tdes-decipher = λ κs a r r′ ends ends′. widely 2;
+  qg-key-check = λ κs a r r′ ends ends′. widely 1;
+  qg-odd-parity = λ κs a r r′ ends ends′. settled;
+  qg-lab-answer = λ κs a r r′ ends ends′. widely 4;
 }

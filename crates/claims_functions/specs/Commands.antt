@@ -1,5 +1,6 @@
 -- One answer to every promise of the crates of commands: key box, responses, frame, fields, LMK ids, uses, key blocks and their lengths, keys,
--- weak lists, formats, validation data, presented offsets, the stages, endings, PIN with natural PIN, BK, DA and EA, and the calls.
+-- weak lists, formats, validation data, presented offsets, the stages, endings, PIN with natural PIN, BK, DA and EA, the calls,
+-- and the lab's answering call above them.
 -- Each line is over the contract of the function of its name, as the checker reads it for a caller. No line needs what a function
 -- requires: outside it a contract promises nothing.
 use Rattle.keybox.proofs as KeyBox
@@ -29,6 +30,7 @@ use Rattle.verifyfields.proofs as VerifyFields
 use Rattle.verifyfinish.proofs as VerifyFinish
 use Rattle.verify.proofs as Verify
 use Rattle.commands.proofs as Commands
+use Rattle.lab.proofs as Lab
 use Rattle.claims_functions.specs.Once.{Settled}
 
 -- every public function of keybox
@@ -179,3 +181,7 @@ pub record CommandsSettled : Type 0 where
   pub ask : Settled Commands.ask.ended Commands.ask.Reads.Learnt
   pub pin-block : Settled Commands.pin_block.ended Commands.pin_block.Reads.Learnt
   pub answer : Settled Commands.answer.ended Commands.answer.Reads.Learnt
+
+-- every public function of lab
+pub record LabSettled : Type 0 where
+  pub answer : Settled Lab.answer.ended Lab.answer.Reads.Learnt

@@ -1,4 +1,4 @@
--- One answer to every promise of the C face: settings and replies that cross it, and the sixteen calls that are exported.
+-- One answer to every promise of the C face: settings and replies that cross it, and the twenty-three calls that are exported.
 -- Each line is over the contract of the function of its name, as the checker reads it for a caller.
 use Rattle.face.proofs as Crossing
 use Rattle.quillgimlet.proofs as Face
@@ -29,3 +29,10 @@ pub record QuillgimletSettled : Type 0 where
   pub qg-pvv-input : Settled Face.qg_pvv_input.ended Face.qg_pvv_input.Reads.Learnt
   pub qg-pvv : Settled Face.qg_pvv.ended Face.qg_pvv.Reads.Learnt
   pub qg-pvv-verdict : Settled Face.qg_pvv_verdict.ended Face.qg_pvv_verdict.Reads.Learnt
+  pub qg-des-encipher : Settled Face.qg_des_encipher.ended Face.qg_des_encipher.Reads.Learnt
+  pub qg-des-decipher : Settled Face.qg_des_decipher.ended Face.qg_des_decipher.Reads.Learnt
+  pub qg-tdes-encipher : Settled Face.qg_tdes_encipher.ended Face.qg_tdes_encipher.Reads.Learnt
+  pub qg-tdes-decipher : Settled Face.qg_tdes_decipher.ended Face.qg_tdes_decipher.Reads.Learnt
+  pub qg-key-check : Settled Face.qg_key_check.ended Face.qg_key_check.Reads.Learnt
+  pub qg-odd-parity : Settled Face.qg_odd_parity.ended Face.qg_odd_parity.Reads.Learnt
+  pub qg-lab-answer : Settled Face.qg_lab_answer.ended Face.qg_lab_answer.Reads.Learnt
