@@ -4,16 +4,13 @@ use Prim.Native.Nat.{ℕ}
 use mathlib.Core.Path.{_≡_, refl, sym, _∙_, subst}
 use mathlib.Core.Logic.{_↔_}
 use mathlib.Core.List.{List, [], _∷_}
-use mathlib.Core.Bool.{Bool, true, false}
+use mathlib.Core.Bool.{Bool, true}
 use lib.ListN.{length, take}
 use Rattle.nibbles.specs.Nibbles.{every}
-use Rattle.numbers.specs.Numbers.{done, refused, andThen}
 use Rattle.numbers.specs.Promise.{Does}
 use Rattle.numbers.specs.declared.Reply.{Reply}
 use Rattle.settings.specs.declared.Settings.{Settings}
 use Rattle.frame.specs.declared.Code.the-variants.{Bk}
-use Rattle.fields.specs.Fields.{Ruling, pointing, unpointed, shown}
-use Rattle.keybox.specs.KeyBox.{slices, parities, boxed}
 use Rattle.commands.specs.Commands.{answered}
 use Rattle.face.specs.Face.{replyIn, pointerIn}
 use Rattle.claims_blocks.specs.Promises.{listed}
@@ -24,6 +21,7 @@ use Rattle.claims_commands.proofs.PinsRead.{reads-exactly, returns-tell-differe
 use Rattle.claims_verification.specs.Calls.{answer}
 use Rattle.claims_verification.proofs.Told.{returns-tell-verdicts}
 use Rattle.claims_places.proofs.Claims.{one-fault, numbers-show-nothing}
+use Rattle.claims_lab.proofs.Told.{boxed-good}
 use Rattle.claims_returns.specs.Returns.{Return, IsBk, Answers, AnswersShowNothing, AllowedReturnsTellDifferences, callOf, AllowedReturnsTellVerdicts, settings, pinKeyGood, pvkGood, command, block, enciphered, before, after}
 
 -- two returns, each under settings and parities of its own
@@ -43,18 +41,7 @@ told x x′ g g′ h h′ p q k =
     (subst (λ (c : Bool). Told x g h x c h′) q
     (subst (λ (c : Bool). Told x g h x g c) k (returns-tell-differences x g h)))
 
--- what is taken of the key box has good parities
-judged-good : {A : Type 0} (o : Ruling A) (g h : Bool) (rows : A) → andThen o (λ x. andThen (unpointed (parities g h)) (λ _. done x)) ≡ done rows → (g ≡ true) × (h ≡ true)
-unfolding parities
-judged-good (done x) true true rows e = (refl, refl)
-judged-good (done x) true false rows e = (cc, cc)
-judged-good (done x) false h rows e = (cc, cc)
-judged-good (refused q) g h rows e = (cc, cc)
-
-boxed-good : (end : ℕ) (g h : Bool) (block enciphered : List ℕ) (rows : List ℕ × List ℕ) → boxed end g h block enciphered ≡ done rows → (g ≡ true) × (h ≡ true)
-unfolding boxed
-boxed-good end g h block enciphered rows e = judged-good (pointing 0 end (slices block enciphered)) g h rows e
-
+-- with these numbers the parities are good
 good : (a : Return) → IsBk a → Answers a → (pinKeyGood a ≡ true) × (pvkGood a ≡ true)
 good a coded e =
     let r = reads-exactly (settings a) (pinKeyGood a) (pvkGood a) (length (before a)) (command a) (block a) (enciphered a) coded .0
@@ -63,14 +50,14 @@ good a coded e =
 
 -- ---- what the server is shown
 
-abbrev these : List ℕ
+abbrev pub these : List ℕ
 these = 0 ∷ 1 ∷ 81 ∷ 86 ∷ []
 
 -- they are among the numbers with which nothing is shown
-abbrev quietNumbers : List ℕ
+abbrev pub quietNumbers : List ℕ
 quietNumbers = 0 ∷ 1 ∷ 10 ∷ 11 ∷ 20 ∷ 24 ∷ 68 ∷ 81 ∷ 86 ∷ 901 ∷ 902 ∷ []
 
-quiet : (n : ℕ) → listed n these ≡ true → listed n quietNumbers ≡ true
+pub quiet : (n : ℕ) → listed n these ≡ true → listed n quietNumbers ≡ true
 unfolding every
 quiet n e = listed-passes (λ m. listed m quietNumbers) n these refl e
 
@@ -87,7 +74,7 @@ shown-alike numbers some a b e e′ =
     answers-show-nothing a (among (a .reply .number) e) ∙ sym (answers-show-nothing b (among (b .reply .number) e′))
 
 -- what two members tell, all three tell
-by-three : {A B C D : Type 0} → C → (A × B) ↔ D → (A × B × C) ↔ D
+pub by-three : {A B C D : Type 0} → C → (A × B) ↔ D → (A × B × C) ↔ D
 by-three c told = (λ (a, b, _). told .0 (a, b), λ d. (told .1 d .0, told .1 d .1, c))
 
 -- ---- the claims
