@@ -4,3 +4,4 @@ pub mod Sealing
 pub mod Numbers
 pub mod Told
 pub mod Witnesses
+pub mod Refusals
