@@ -1,6 +1,5 @@
--- The order in which the product judges its keys, of a command that the asking call takes: "then 15 for a lab key of neither length
--- (either key, before both parities; the short response, place the command's length, field 0), 10 for the PIN key's parity, 11 for the
--- PVK's". Numbers and lengths are literals.
+-- "15 for a lab key of neither length, before 10 and 11": the order in which the product judges its keys, of a command that the asking
+-- call takes. Numbers and lengths are literals.
 use Prim.Native.Nat.{ℕ, _≤_}
 use mathlib.Core.Path.{_≡_}
 use mathlib.Core.Logic.{_⊎_}
@@ -38,13 +37,13 @@ KeyLengthFirst = (settings : Settings) (s pinKey pvk v : List ℕ) (room : ℕ) 
     → NeitherLength pinKey ⊎ NeitherLength pvk
     → RefusedWith 15 (atTheEnd s) settings s pinKey pvk room
 
--- "No key of 8 bytes is a lab key"
+-- so of 8 bytes: a key of DES alone is no lab key
 abbrev pub KeyOf8 : Type 0
 KeyOf8 = (settings : Settings) (s pinKey pvk v : List ℕ) (room : ℕ) → 65 ≤ room → asked settings s 8 ≡ done v
     → (length pinKey ≡ 8) ⊎ (length pvk ≡ 8)
     → RefusedWith 15 (atTheEnd s) settings s pinKey pvk room
 
--- nor is one between the two lengths
+-- and of 20, between the two lengths
 abbrev pub KeyOf20 : Type 0
 KeyOf20 = (settings : Settings) (s pinKey pvk v : List ℕ) (room : ℕ) → 65 ≤ room → asked settings s 8 ≡ done v
     → (length pinKey ≡ 20) ⊎ (length pvk ≡ 20)
@@ -52,13 +51,13 @@ KeyOf20 = (settings : Settings) (s pinKey pvk v : List ℕ) (room : ℕ) → 65 
 
 -- ---- the parities
 
--- "10 for the PIN key's parity", whatever that of the PVK is: pointing at nothing
+-- "parity answers 10 and 11 become its own": 10 for the PIN key's, whatever that of the PVK is, pointing at nothing
 abbrev pub PinKeyParityNext : Type 0
 PinKeyParityNext = (settings : Settings) (s pinKey pvk v : List ℕ) (room : ℕ) → 65 ≤ room → asked settings s 8 ≡ done v
     → IsLabKey pinKey → IsLabKey pvk → oddParity pinKey ≡ false
     → RefusedWith 10 (record { refusal = PinKeyParity10; field = 0; place = 0 }) settings s pinKey pvk room
 
--- "11 for the PVK's"
+-- then 11 for the PVK's
 abbrev pub PvkParityNext : Type 0
 PvkParityNext = (settings : Settings) (s pinKey pvk v : List ℕ) (room : ℕ) → 65 ≤ room → asked settings s 8 ≡ done v
     → IsLabKey pinKey → IsLabKey pvk → oddParity pinKey ≡ true → oddParity pvk ≡ false

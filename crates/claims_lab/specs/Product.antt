@@ -18,7 +18,7 @@ use Rattle.ciphers.specs.Ciphers.{tripleBlock}
 use Rattle.ciphers.specs.declared.Way.the-variants.{Encipher, Decipher}
 use Rattle.lab.specs.Lab.{labAnswered, labReplying}
 
--- "A lab key has 16 or 24 bytes"
+-- a lab key has 16 or 24 bytes
 abbrev pub IsLabKey : List ℕ → Type 0
 IsLabKey key = (length key ≡ 16) ⊎ (length key ≡ 24)
 
@@ -30,8 +30,8 @@ BothOrNeither = (settings : Settings) (s : List ℕ)
 
 -- ---- where they write
 
--- "equals the core's answering definition at the deciphered block, the enciphered validation block and the parities of its own keys":
--- v is what the asking call writes, b what the PIN block's call does
+-- the product answers as the core does at the PIN block deciphered, the validation block enciphered, and the parities of its own keys. The
+-- asking call writes the validation block v, the PIN block's call the PIN block b
 abbrev pub AnswersAsTheCore : Type 0
 AnswersAsTheCore = (settings : Settings) (s pinKey pvk v b : List ℕ) (room : ℕ) → IsLabKey pinKey → IsLabKey pvk
     → asked settings s 8 ≡ done v → extracted settings s 16 ≡ done b
@@ -45,7 +45,7 @@ RepliesAsTheCore = (settings : Settings) (s pinKey pvk v b : List ℕ) (room : �
     → labReplying settings s pinKey pvk room
     ≡ replying settings (oddParity pinKey) (oddParity pvk) s (tripleBlock Decipher pinKey b) (tripleBlock Encipher pvk v) room
 
--- ---- "refusals included"
+-- ---- where they refuse
 
 -- less room than 65 is 901, before all else: nothing is written and nothing pointed at
 abbrev pub RoomFirst : Type 0

@@ -20,7 +20,7 @@ pub record SealedUnder (settings : Settings) (s pinKey block : List ℕ) : Type 
   pub bytes : IsBytes block
   pub sealed : extracted settings s 16 ≡ done (tripleBlock Encipher pinKey block)
 
--- "Deciphering undoes enciphering": under that key the deciphered block is the one that was sealed
+-- "Deciphering undoes enciphering for every key": under that one the deciphered block is the one that was sealed
 abbrev pub SealedOpens : Type 0
 SealedOpens = (settings : Settings) (s pinKey block : List ℕ) → SealedUnder settings s pinKey block → clearBlock settings s pinKey ≡ block
 

@@ -1,5 +1,5 @@
--- Demand 3, of the product: "alike except the PIN block's characters, the two lab keys may differ between the runs, both reach their
--- PINs: answers agree exactly as before". Each law is one of the core's, at the blocks that each run's own keys make.
+-- "Demand 3 reads as before, and the two lab keys may differ between the two runs": each law is one of the core's, at the blocks that
+-- each run's own keys make.
 use Prim.Native.Nat.{ℕ}
 use mathlib.Core.Path.{_≡_}
 use mathlib.Core.Logic.{_↔_}

@@ -71,11 +71,11 @@ pub record Meets (a b : LabCall) : Type 0 where
   pub covered : covers (usually .variable) (here .reaches .fields .offsetting .check) (length (here .found .0)) ≡ done 4
   pub keys : KeysApart a b
 
--- the differences agree, and so do the answers
+-- under different keys two runs answer alike
 abbrev pub AgreeUnderOtherKeys : Type 0
 AgreeUnderOtherKeys = Meets first alike × (labAnswer usually first ≡ labAnswer usually alike)
 
--- they do not, and nor do the answers
+-- or not
 abbrev pub DifferUnderOtherKeys : Type 0
 DifferUnderOtherKeys = Meets first unlike × (labAnswer usually first ≡ labAnswer usually unlike → ⊥)
 
@@ -103,7 +103,7 @@ pub record Compared (w : Verifying) (a b : LabCall) (m n : ℕ) : Type 0 where
   pub number : labAnswer usually a .number ≡ m
   pub number′ : labAnswer usually b .number ≡ n
 
--- the differences agree, and both are 00; or they do not, and one is 01
+-- both are 00, or one is 01
 abbrev pub VerdictsUnderOtherKeys : Type 0
 VerdictsUnderOtherKeys = (w : Verifying) → Compared w (firstVerified w) (alikeVerified w) 0 0 × Compared w (firstVerified w) (unlikeVerified w) 0 1
 
