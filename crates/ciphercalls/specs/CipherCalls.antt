@@ -1,4 +1,4 @@
--- The calls of the ciphers: "901, then 15".
+-- The calls of the ciphers, "encipher and decipher one block, key check value": 901, then 15.
 use Prim.Native.Nat.{ℕ}
 use mathlib.Core.List.{List, [], _∷_}
 use mathlib.Core.Bool.{Bool}
@@ -21,21 +21,21 @@ ciphered isKey cipher key block room =
     (λ k. andThen (unless Field15 (eqb (length block) 8) block)
     (λ b. done (cipher k b)))
 
--- "key and block 8 bytes, room 8"
+-- DES: a key of eight bytes
 unfoldable pub desCall : Way → List ℕ → List ℕ → ℕ → Outcome (List ℕ)
 desCall way = ciphered (λ key. eqb (length key) 8) (desBlock way)
 
--- "likewise: key 16 or 24"
+-- triple DES: a lab key
 unfoldable pub tripleCall : Way → List ℕ → List ℕ → ℕ → Outcome (List ℕ)
 tripleCall way = ciphered isLabKey (tripleBlock way)
 
--- "Key check value: the first 3 bytes of a block of zeros enciphered"
+-- the key check value: the first 3 bytes of a block of zeros enciphered
 abbrev pub zeros : List ℕ
 zeros = 0 ∷ 0 ∷ 0 ∷ 0 ∷ 0 ∷ 0 ∷ 0 ∷ 0 ∷ []
 
 abbrev pub checkValue : List ℕ → List ℕ
 checkValue key = take 3 (tripleBlock Encipher key zeros)
 
--- "key 16 or 24, room 3"
+-- of a lab key, with room for it
 unfoldable pub keyCheck : List ℕ → ℕ → Outcome (List ℕ)
 keyCheck key room = andThen (keyed 3 isLabKey key room) (λ k. done (checkValue k))

@@ -20,7 +20,7 @@ desBlock way key block = inBytes 8 (desWord way key block)
 
 -- ---- triple DES, under a lab key
 
--- "A lab key has 16 or 24 bytes"
+-- a lab key has 16 or 24 bytes: "two-key and three-key triple DES"
 abbrev pub isLabKey : List ℕ → Bool
 isLabKey key = eqb (length key) 16 || eqb (length key) 24
 
@@ -28,7 +28,7 @@ isLabKey key = eqb (length key) 16 || eqb (length key) 24
 abbrev pub keyAt : List ℕ → ℕ → ℕ
 keyAt key at = spelled (take 8 (drop at key))
 
--- "two keys (16 bytes, K1 K2 K1) and three (24 bytes)": where the third key stands
+-- where the third key stands: 24 bytes are K1, K2 and K3, and 16 are K1 and K2, with K1 again for K3
 abbrev pub thirdAt : List ℕ → ℕ
 thirdAt key = cond (ltb (length key) 24) 0 16
 

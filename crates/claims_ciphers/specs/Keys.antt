@@ -1,4 +1,4 @@
--- "triple DES with two keys (16 bytes, K1 K2 K1) and three (24 bytes), encipher E(K1) D(K2) E(K3)", by what DES makes under each key.
+-- "two-key and three-key triple DES", E(K1) D(K2) E(K3), where two keys are K1 K2 K1: by what DES makes under each key.
 use Prim.Native.Nat.{ℕ}
 use mathlib.Core.Path.{_≡_}
 use mathlib.Core.List.{List, _++_}

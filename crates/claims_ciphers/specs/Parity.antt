@@ -1,4 +1,4 @@
--- "Odd parity: every byte of the key has an odd number of ones", said a second time.
+-- That every byte of a key has an odd number of ones, said a second time.
 use Prim.Native.Nat.{ℕ, _<_}
 use mathlib.Core.Path.{_≡_}
 use mathlib.Core.Logic.{_↔_, _≢_}

@@ -1,4 +1,4 @@
--- "parity bits do not enter the cipher": the last bit of each byte of a key.
+-- Parity bits do not enter the cipher: they are the last bit of each byte of a key.
 use Prim.Native.Nat.{ℕ, _/_}
 use mathlib.Core.Path.{_≡_}
 use mathlib.Core.Bool.{true}

@@ -1,4 +1,4 @@
--- "901, then 15": what the calls of the ciphers refuse. Lengths and rooms are literals, so that one that is changed in definition and
+-- 901, then 15: what the calls of the ciphers refuse. Lengths and rooms are literals, so that one that is changed in definition and
 -- code together is met here.
 use Prim.Native.Nat.{ℕ, _≤_, _<_}
 use mathlib.Core.Path.{_≡_}
@@ -43,7 +43,7 @@ CountsOfCiphers = (way : Way) (key block written : List ℕ) (room : ℕ)
     × (tripleCall way key block room ≡ done written → length written ≡ 8)
     × (keyCheck key room ≡ done written → length written ≡ 3)
 
--- "the first 3 bytes of a block of zeros enciphered": of what triple DES writes of eight zeros under the key
+-- the first 3 bytes of a block of zeros enciphered: of what triple DES writes of eight zeros under the key
 abbrev pub CheckIsTheFirst : Type 0
 CheckIsTheFirst = (key first rest : List ℕ) (room room′ : ℕ) → length first ≡ 3 → 3 ≤ room
     → tripleCall Encipher key (replicate 8 0) room′ ≡ done (first ++ rest) → keyCheck key room ≡ done first

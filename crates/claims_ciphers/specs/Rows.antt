@@ -1,4 +1,4 @@
--- "Each row of each box holds every value 0 to 15 once", of what a box makes of six bits.
+-- "The DES boxes, 512 numbers, must each hold every value once in each row": of what a box makes of six bits.
 use Prim.Native.Nat.{ℕ, _+_, _*_, _/_, _%_, _≤_, _<_}
 use mathlib.Core.Path.{_≡_}
 use Rattle.fips46.specs.Fips46.{S}

@@ -1,4 +1,4 @@
--- "Odd parity: every byte of the key has an odd number of ones".
+-- Odd parity: every byte of a key has an odd number of ones.
 use Prim.Native.Nat.{ℕ, zero, suc, _+_, _/_, _%_}
 use mathlib.Core.List.{List}
 use mathlib.Core.Bool.{Bool}
