@@ -90,14 +90,17 @@ static void draw_key(struct key *key, size_t len, bool odd)
 	make_schedules(key);
 }
 
-/* What OpenSSL makes of a block. */
+/* What OpenSSL makes of a block. DES is asked for as chained behind a block of
+ * zeros, which is the same of a single block: DES_ecb_encrypt stands in one file
+ * with a function of texts, and a static program takes in seven hundred files of
+ * the library for that. */
 static void make_with_openssl(struct key *key, const uint8_t *block, int direction, uint8_t *made)
 {
-	uint8_t from[BLOCK], to[BLOCK];
+	uint8_t from[BLOCK], to[BLOCK], before[BLOCK] = { 0 };
 
 	memcpy(from, block, BLOCK);
 	if (key->len == BLOCK)
-		DES_ecb_encrypt(&from, &to, &key->schedule[0], direction);
+		DES_ncbc_encrypt(from, to, BLOCK, &key->schedule[0], &before, direction);
 	else
 		DES_ecb3_encrypt(&from, &to, &key->schedule[0], &key->schedule[1], &key->schedule[2],
 			direction);
