@@ -252,7 +252,7 @@ static void play_check(const char *source, const uint8_t *key, size_t key_len, s
 	hold_kept("checked", source, lent, key, key_len);
 }
 
-/* Its parity bits do not enter a key's check value, and every other bit does: no
+/* Its parity bits do not enter a key's check value, and one that is none does: no
  * other key here has the printed one. */
 static void play_printed_check(const struct check *c)
 {

@@ -1,6 +1,6 @@
 /*
  * What the vectors of the commands share: the paper's command in pieces, an
- * exchange, and how one is played through both calls.
+ * exchange, and how one is played through the three calls.
  */
 #ifndef HOST_COMMAND_VECTORS_H
 #define HOST_COMMAND_VECTORS_H

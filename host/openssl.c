@@ -1,10 +1,10 @@
 /*
  * openssl: holds the ciphers to OpenSSL's DES. First NIST's known answers, whose
- * answers are OpenSSL's own; then one hundred thousand random keys and blocks,
- * each as DES and as triple DES of two keys and of three, both ways, with the
- * check value and the parity of the key. Every second key has odd parity, the
- * others come as they are drawn. The last line is 'openssl: N passed, M failed',
- * counted in calls.
+ * answers are OpenSSL's own; then one hundred thousand random keys and blocks at
+ * each of the three key lengths, that is, DES and triple DES of two keys and of
+ * three, both ways, with the check value and the parity of the key. Every second
+ * key has odd parity, the others come as they are drawn. The last line is
+ * 'openssl: N passed, M failed', counted in calls.
  *
  * OpenSSL is asked with its plain DES functions, which version 3 calls old: they
  * take a key of any parity, and are there in every version.
