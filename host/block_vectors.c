@@ -148,7 +148,7 @@ static bool is_restricted_pair(uint32_t from, uint32_t to)
 
 static void translate_to_all(const struct vector *from)
 {
-	for (size_t i = 0; i < sizeof vectors / sizeof vectors[0]; i++)
+	for (size_t i = 0; i < COUNT(vectors); i++)
 		if (strcmp(from->pin, vectors[i].pin) == 0 &&
 			strcmp(from->account, vectors[i].account) == 0) {
 			translate_vector(unrestricted, from, &vectors[i], true);
@@ -159,12 +159,12 @@ static void translate_to_all(const struct vector *from)
 
 void block_vectors(void)
 {
-	for (size_t i = 0; i < sizeof vectors / sizeof vectors[0]; i++) {
+	for (size_t i = 0; i < COUNT(vectors); i++) {
 		write_vector(&vectors[i]);
 		read_vector(&vectors[i]);
 		translate_to_all(&vectors[i]);
 	}
-	for (size_t i = 0; i < sizeof refusals / sizeof refusals[0]; i++) {
+	for (size_t i = 0; i < COUNT(refusals); i++) {
 		refuse_vector(&refusals[i]);
 		refuse_translation(&refusals[i]);
 	}

@@ -12,8 +12,6 @@
 #include "quillgimlet_lab.h"
 #include "vectors.h"
 
-#define COUNT(rows) (sizeof (rows) / sizeof (rows)[0])
-
 #define DES_KEY 8
 #define TWO_PARTS 16
 #define THREE_PARTS 24

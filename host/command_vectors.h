@@ -7,8 +7,6 @@
 
 #include "vectors.h"
 
-#define COUNT(rows) (sizeof (rows) / sizeof (rows)[0])
-
 /* The paper's command in pieces. Each macro is the whole command with another
  * piece in one place; optional fields are written behind it. */
 #define ZEROS "0000000000000000"

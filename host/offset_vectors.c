@@ -16,8 +16,6 @@ static const char *const enciphered_blocks[] = {
 	"9F3C0A71FFFFFFFF",
 };
 
-#define COUNT(rows) (sizeof (rows) / sizeof (rows)[0])
-
 /* Validation data and the block that they make. */
 struct validation {
 	const char *source;

@@ -114,7 +114,7 @@ void pvv_vectors(void)
 {
 	make_input();
 	refuse_input();
-	for (size_t i = 0; i < sizeof printed / sizeof printed[0]; i++)
+	for (size_t i = 0; i < COUNT(printed); i++)
 		make_pvv(&printed[i]);
 	refuse_presented();
 	refuse_instructors(&printed[0]);

@@ -19,6 +19,9 @@
 #define LENT 80
 #define UNTOUCHED 0xA5
 
+/* How many rows a table has. */
+#define COUNT(rows) (sizeof (rows) / sizeof (rows)[0])
+
 /* Room for the words that say what was done. */
 #define DEED 64
 
