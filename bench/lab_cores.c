@@ -1,10 +1,6 @@
-#define OPENSSL_SUPPRESS_DEPRECATED /* its plain DES functions, which version 3 calls old */
 #include "lab_cores.h"
 
-#include <openssl/des.h>
-#include <string.h>
-
-#define PARTS 3
+#include "openssl_des.h"
 
 /* The room that qg_pin_block asks for. */
 #define PIN_BLOCK_ROOM 16
@@ -19,33 +15,13 @@ qg_reply reference_lab_answer(qg_settings settings,
 	const uint8_t *pvk, size_t pvk_len,
 	uint8_t *out, size_t out_len);
 
-/* OpenSSL's schedules of a key, one for each different part, and triple DES. */
-static void openssl_tdes(const struct lab_key *key, const uint8_t *block, uint8_t *out, int direction)
+/* A block by OpenSSL, its schedules of the key made for it. */
+static void openssl_tdes(const struct lab_key *key, const uint8_t *block, int direction, uint8_t *out)
 {
-	DES_key_schedule schedule[PARTS];
-	uint8_t from[BLOCK], to[BLOCK];
-	size_t parts = key->len / BLOCK;
+	struct openssl_key made;
 
-	for (size_t i = 0; i < parts; i++) {
-		memcpy(from, key->at + i * BLOCK, BLOCK);
-		DES_set_key_unchecked(&from, &schedule[i]);
-	}
-	memcpy(from, block, BLOCK);
-	DES_ecb3_encrypt(&from, &to, &schedule[0], &schedule[1], &schedule[parts == PARTS ? 2 : 0],
-		direction);
-	memcpy(out, to, BLOCK);
-}
-
-static uint8_t openssl_parity(const struct lab_key *key)
-{
-	for (size_t i = 0; i < key->len; i += BLOCK) {
-		uint8_t part[BLOCK];
-
-		memcpy(part, key->at + i, BLOCK);
-		if (DES_check_key_parity(&part) == 0)
-			return 0;
-	}
-	return 1;
+	openssl_make_key(&made, key->at, key->len);
+	openssl_cipher(&made, block, direction, out);
 }
 
 static qg_reply openssl_answer(const uint8_t *command, size_t command_len,
@@ -56,17 +32,18 @@ static qg_reply openssl_answer(const uint8_t *command, size_t command_len,
 
 	if (qg_ask(settings, command, command_len, asked, BLOCK).number == 0 &&
 		qg_pin_block(settings, command, command_len, sealed, PIN_BLOCK_ROOM).number == 0) {
-		openssl_tdes(pin_key, sealed, pin_block, DES_DECRYPT);
-		openssl_tdes(pvk, asked, enciphered, DES_ENCRYPT);
+		openssl_tdes(pin_key, sealed, DES_DECRYPT, pin_block);
+		openssl_tdes(pvk, asked, DES_ENCRYPT, enciphered);
 	}
-	return qg_answer(settings, openssl_parity(pin_key), openssl_parity(pvk), command, command_len,
-		pin_block, BLOCK, enciphered, BLOCK, out, ROOM);
+	return qg_answer(settings, openssl_is_odd(pin_key->at, pin_key->len),
+		openssl_is_odd(pvk->at, pvk->len), command, command_len, pin_block, BLOCK,
+		enciphered, BLOCK, out, ROOM);
 }
 
 bool lab_encipher(enum lab_core core, const struct lab_key *key, const uint8_t *block, uint8_t *out)
 {
 	if (core == LAB_OPENSSL) {
-		openssl_tdes(key, block, out, DES_ENCRYPT);
+		openssl_tdes(key, block, DES_ENCRYPT, out);
 		return true;
 	}
 	return (core == LAB_OURS ? qg_tdes_encipher : reference_tdes_encipher)(key->at, key->len,

@@ -5,13 +5,7 @@
  * three, both ways, with the check value and the parity of the key. Every second
  * key has odd parity, the others come as they are drawn. The last line is
  * 'openssl: N passed, M failed', counted in calls.
- *
- * OpenSSL is asked with its plain DES functions, which version 3 calls old: they
- * take a key of any parity, and are there in every version.
  */
-#define OPENSSL_SUPPRESS_DEPRECATED
-#include <openssl/des.h>
-
 #include <inttypes.h>
 #include <stdbool.h>
 #include <stdio.h>
@@ -19,11 +13,11 @@
 #include <string.h>
 
 #include "known_answers.h"
+#include "openssl_des.h"
 #include "quillgimlet_lab.h"
 
 #define BLOCK 8
-#define PARTS 3
-#define LONGEST (PARTS * BLOCK)
+#define LONGEST (3 * BLOCK)
 #define CHECK_VALUE 3
 
 #define DRAWS 100000
@@ -45,36 +39,12 @@ static uint64_t draw(void)
 	return z ^ z >> 31;
 }
 
-/* A key of one, two or three parts: its bytes, and OpenSSL's schedules. A key of
- * two has its first again as its third. */
+/* A key of one, two or three parts: its bytes, and what OpenSSL takes it as. */
 struct key {
 	uint8_t at[LONGEST];
 	size_t len;
-	DES_key_schedule schedule[PARTS];
+	struct openssl_key theirs;
 };
-
-/* Whether OpenSSL calls the parity of every part odd. */
-static bool is_odd(const struct key *key)
-{
-	for (size_t i = 0; i < key->len; i += BLOCK) {
-		uint8_t part[BLOCK];
-
-		memcpy(part, key->at + i, BLOCK);
-		if (DES_check_key_parity(&part) == 0)
-			return false;
-	}
-	return true;
-}
-
-static void make_schedules(struct key *key)
-{
-	for (size_t i = 0; i < PARTS; i++) {
-		uint8_t part[BLOCK];
-
-		memcpy(part, key->at + i * BLOCK % key->len, BLOCK);
-		DES_set_key_unchecked(&part, &key->schedule[i]);
-	}
-}
 
 static void draw_key(struct key *key, size_t len, bool odd)
 {
@@ -87,24 +57,7 @@ static void draw_key(struct key *key, size_t len, bool odd)
 			DES_set_odd_parity(&part);
 		memcpy(key->at + i, part, BLOCK);
 	}
-	make_schedules(key);
-}
-
-/* What OpenSSL makes of a block. DES is asked for as chained behind a block of
- * zeros, which is the same of a single block: DES_ecb_encrypt stands in one file
- * with a function of texts, and a static program takes in seven hundred files of
- * the library for that. */
-static void make_with_openssl(struct key *key, const uint8_t *block, int direction, uint8_t *made)
-{
-	uint8_t from[BLOCK], to[BLOCK], before[BLOCK] = { 0 };
-
-	memcpy(from, block, BLOCK);
-	if (key->len == BLOCK)
-		DES_ncbc_encrypt(from, to, BLOCK, &key->schedule[0], &before, direction);
-	else
-		DES_ecb3_encrypt(&from, &to, &key->schedule[0], &key->schedule[1], &key->schedule[2],
-			direction);
-	memcpy(made, to, BLOCK);
+	openssl_make_key(&key->theirs, key->at, len);
 }
 
 static void show(const char *name, const uint8_t *bytes, size_t len)
@@ -149,7 +102,7 @@ static void hold_cipher(struct key *key, const uint8_t *block, int direction)
 	uint8_t ours[BLOCK] = { 0 }, theirs[BLOCK];
 	qg_reply reply = make(key, block, direction, ours);
 
-	make_with_openssl(key, block, direction, theirs);
+	openssl_cipher(&key->theirs, block, direction, theirs);
 	score(direction == DES_ENCRYPT ? "enciphered" : "deciphered", reply.number == 0 &&
 		reply.written == BLOCK && memcmp(ours, theirs, BLOCK) == 0, key, block, ours, theirs,
 		BLOCK);
@@ -161,7 +114,7 @@ static void hold_check_value(struct key *key)
 	uint8_t ours[CHECK_VALUE] = { 0 }, theirs[BLOCK];
 	qg_reply reply = qg_key_check(key->at, key->len, ours, CHECK_VALUE);
 
-	make_with_openssl(key, zeros, DES_ENCRYPT, theirs);
+	openssl_cipher(&key->theirs, zeros, DES_ENCRYPT, theirs);
 	score("check value", reply.number == 0 && reply.written == CHECK_VALUE &&
 		memcmp(ours, theirs, CHECK_VALUE) == 0, key, zeros, ours, theirs, CHECK_VALUE);
 }
@@ -169,7 +122,7 @@ static void hold_check_value(struct key *key)
 static void hold_parity(const struct key *key)
 {
 	static const uint8_t none[BLOCK];
-	uint8_t ours = qg_odd_parity(key->at, key->len), theirs = is_odd(key);
+	uint8_t ours = qg_odd_parity(key->at, key->len), theirs = openssl_is_odd(key->at, key->len);
 
 	score("parity", ours == theirs, key, none, &ours, &theirs, 1);
 }
@@ -199,8 +152,8 @@ static void hold_known(const struct known_answer *known)
 	known_bytes(known->key, key.at);
 	known_bytes(known->block, block);
 	known_bytes(known->enciphered, enciphered);
-	make_schedules(&key);
-	make_with_openssl(&key, block, DES_ENCRYPT, theirs);
+	openssl_make_key(&key.theirs, key.at, key.len);
+	openssl_cipher(&key.theirs, block, DES_ENCRYPT, theirs);
 	score(known->test, memcmp(enciphered, theirs, BLOCK) == 0, &key, block, enciphered, theirs,
 		BLOCK);
 }
