@@ -2,8 +2,9 @@
  * Times triple DES and the whole answer of a class without a key box: ours beside
  * the reference's and beside OpenSSL's DES, in one run and with one loop.
  *
- *   lab            ns, and how many times as long ours takes as each of the others
- *   lab ratio      the ratios alone, as under an emulator
+ *   lab_bench         ns, and how many times as long ours takes as each of the
+ *                     others
+ *   lab_bench ratio   the ratios alone, as under an emulator
  *
  * Its status is zero where all three answer alike and, where the times are native,
  * the goals are met: nothing takes longer than the reference's, and a triple DES
@@ -12,6 +13,7 @@
 #include "lab_cores.h"
 #include "race.h"
 
+#include <stdbool.h>
 #include <stdio.h>
 #include <stdlib.h>
 #include <string.h>
@@ -141,7 +143,8 @@ static void show(const struct deed *deed, const struct result *found, bool shows
 	printf("%15.2f %13.2f\n", found->ratio[LAB_REFERENCE], found->ratio[LAB_OPENSSL]);
 }
 
-/* Only a block has a goal beside OpenSSL's: of an answer most is ours in both. */
+/* Only a block has a goal beside OpenSSL's: in an answer the reading, which is ours
+ * in both, blurs the ratio. */
 static bool meets_goals(const struct deed *deed, const struct result *found)
 {
 	return found->ratio[LAB_REFERENCE] <= MOST_OF_REFERENCE &&

@@ -40,14 +40,13 @@ static qg_reply openssl_answer(const uint8_t *command, size_t command_len,
 		enciphered, BLOCK, out, ROOM);
 }
 
-bool lab_encipher(enum lab_core core, const struct lab_key *key, const uint8_t *block, uint8_t *out)
+void lab_encipher(enum lab_core core, const struct lab_key *key, const uint8_t *block, uint8_t *out)
 {
-	if (core == LAB_OPENSSL) {
+	if (core == LAB_OPENSSL)
 		openssl_tdes(key, block, DES_ENCRYPT, out);
-		return true;
-	}
-	return (core == LAB_OURS ? qg_tdes_encipher : reference_tdes_encipher)(key->at, key->len,
-		block, BLOCK, out, BLOCK).number == 0;
+	else
+		(core == LAB_OURS ? qg_tdes_encipher : reference_tdes_encipher)(key->at, key->len,
+			block, BLOCK, out, BLOCK);
 }
 
 qg_reply lab_answer(enum lab_core core, const uint8_t *command, size_t command_len,

@@ -6,8 +6,6 @@
 #ifndef BENCH_LAB_CORES_H
 #define BENCH_LAB_CORES_H
 
-#include <stdbool.h>
-
 #include "quillgimlet_lab.h"
 
 #define BLOCK 8
@@ -21,8 +19,8 @@ struct lab_key {
 	size_t len;
 };
 
-/* Enciphers a block. True where it was done. */
-bool lab_encipher(enum lab_core core, const struct lab_key *key, const uint8_t *block, uint8_t *out);
+/* Enciphers a block. */
+void lab_encipher(enum lab_core core, const struct lab_key *key, const uint8_t *block, uint8_t *out);
 
 /* Answers a whole command. OpenSSL's is the way of a server that has its DES for a
  * key box: qg_ask, qg_pin_block, the cipher and the parities, qg_answer. */
