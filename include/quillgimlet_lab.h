@@ -3,7 +3,11 @@
  * keys, and a call that answers a whole command with two of them. This header
  * is the manual of these calls. They are in libquillgimlet.a beside those of
  * quillgimlet.h, which it includes, and what that header says of runs, numbers
- * and replies holds here too.
+ * and replies holds here too. Its rule that lent runs never overlap has two
+ * traps here:
+ *
+ *   - A block is not ciphered in place: `out` is another buffer than `block`.
+ *   - A server with one key for both uses lends qg_lab_answer two copies of it.
  *
  * These calls are for classrooms. A key stands in the server's memory, in the
  * clear, for as long as the server keeps it there. Nothing here unwraps a key,
