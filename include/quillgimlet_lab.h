@@ -213,11 +213,11 @@ uint8_t qg_odd_parity(const uint8_t *key, size_t key_len);
  *
  *    89 AB CD EF 01 23 45 67 76 54 32 10 FE DC BA 98    check value EB7A8D
  *
- * PIN 34567 of account 400000123456 in format 01 is 05 34 16 7F FF ED CB A9,
- * and sealed under the PIN key A6 C2 7D 97 17 22 74 71. For the BK command of
+ * PIN 34567 of account 400000123456 in format 01 is 05 34 16 7F FF ED CB A9
+ * and, sealed under the PIN key, A6 C2 7D 97 17 22 74 71. For the BK command of
  * quillgimlet.h with A6C27D9717227471 as its PIN block qg_lab_answer writes
- * HDR1BL002636FFFFFFFF, and for the DA with this PIN block and with the offset
- * 2636FFFFFFFF HDR1DB00.
+ * HDR1BL002636FFFFFFFF. For the DA with this PIN block and with the offset
+ * 2636FFFFFFFF it writes HDR1DB00.
  */
 
 /*
