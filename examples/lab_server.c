@@ -24,7 +24,7 @@ int main(int argc, char **argv)
 	size_t got;
 
 	if (argc != 3 || !read_key(argv[1], &pin_key) || !read_key(argv[2], &pvk))
-		return fputs("usage: lab_server PIN-KEY PVK, both in hex\n", stderr), 2;
+		return fputs("usage: lab_server PIN-KEY PVK, in capital hex, at most 32 bytes\n", stderr), 2;
 	while ((got = fread(length, 1, 2, stdin)) == 2) {
 		size_t len = (size_t)length[0] << 8 | length[1];
 		if (fread(command, 1, len, stdin) != len)
