@@ -232,8 +232,9 @@ bool explain_read(struct script *script, char **words, int len)
 	script->alone = true;
 	if (!split(words, len, &found) || !take_source(script, &found))
 		return false;
-	/* an option says more than a line, also behind the lines that end an exchange */
-	script->now.asks.given = script->now.answers.given = false;
+	/* an option says more than a line, also behind the lines that end an exchange, and
+	 * behind a seal line that is the last */
+	script->now.asks.given = script->now.answers.given = script->now.seal.given = false;
 	for (int i = 0; i < LINES; i++)
 		if (found.given[i] != NULL && !take_option(script, &options[i], found.given[i]))
 			return false;

@@ -203,6 +203,9 @@ static const char *misplaced(const struct script *script, const struct kind *kin
 {
 	const struct script_exchange *now = &script->now;
 
+	/* a PIN is sealed under the key that holds at its sealed line */
+	if (now->seal.given && kind->step != SCRIPT_SEALED)
+		return "nothing can stand between seal and sealed";
 	if (kind->place == PLACE_BEFORE_ASKS && now->asks.given)
 		return "this cannot change between asks and answers";
 	if (kind->place == PLACE_KEY_BOX && (now->pin_key.given || now->pvk.given))

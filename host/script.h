@@ -55,10 +55,11 @@
  * have no place then, and an exchange needs no `asks` line. Where it has one it
  * is held to it. One lab key without the other answers nothing.
  *
- * A `seal` line is followed by its `sealed` line, which may be ? too. The block
- * goes into a command as any other characters do: by a line that says them. So a
- * script shows what stands on the line to the host, and a block that was sealed
- * under another key can be sent.
+ * A `seal` line is followed by its `sealed` line, which may be ? too: nothing but
+ * comments and blank lines stands between them. The block goes into a command as
+ * any other characters do: by a line that says them. So a script shows what stands
+ * on the line to the host, and a block that was sealed under another key can be
+ * sent.
  */
 #ifndef HOST_SCRIPT_H
 #define HOST_SCRIPT_H

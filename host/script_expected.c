@@ -128,8 +128,6 @@ static const char *hold_answerer(const struct script_exchange *now)
 {
 	if (!now->command_given)
 		return "answers: no command line stands before it";
-	if (now->seal.given)
-		return "answers: the seal line before it has no sealed line";
 	if (script_is_lab(now))
 		return NULL;
 	if (now->pin_key.given || now->pvk.given)

@@ -73,8 +73,6 @@ const char *script_take_seal(struct script *script, const char *rest)
 {
 	struct script_seal *seal = &script->now.seal;
 
-	if (seal->given)
-		return "seal: the seal line before it has no sealed line";
 	if (!script->alone && !script->now.pin_key.given)
 		return "seal: no pinkey line stands before it";
 	memset(seal, 0, sizeof *seal);
