@@ -51,9 +51,10 @@
  * Both may be given as ? in a script that is to be recorded.
  *
  * While both lab keys are set, the answering call of an exchange is
- * qg_lab_answer and no key box is asked: the lines block, enciphered and parity
- * have no place then, and an exchange needs no `asks` line. Where it has one it
- * is held to it. One lab key without the other answers nothing.
+ * qg_lab_answer and no key box is asked: an exchange needs no `asks` line then.
+ * Where it has one it is held to it. One lab key without the other answers
+ * nothing, but seals PINs where it is the pinkey. As soon as one is set, the lines
+ * block, enciphered and parity have no place.
  *
  * A `seal` line is followed by its `sealed` line, which may be ? too: nothing but
  * comments and blank lines stands between them. The block goes into a command as
