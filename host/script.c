@@ -99,6 +99,7 @@ static const char *take_command(struct script *script, const char *rest)
 {
 	script->now.command_len = 0;
 	script->now.command_given = true;
+	script->commanded = true;
 	script->in_command = true;
 	return take_more(script, rest);
 }
@@ -195,6 +196,7 @@ static void begin_exchange(struct script *script)
 	script->now.name[0] = '\0';
 	memset(&script->now.asks, 0, sizeof script->now.asks);
 	memset(&script->now.answers, 0, sizeof script->now.answers);
+	script->commanded = false;
 	script->begun = false;
 }
 
@@ -233,6 +235,7 @@ static enum script_step take_line(struct script *script, const char *word)
 	if (fault != NULL)
 		return refuse(script, fault);
 	script->begun = kind->step != SCRIPT_ANSWERS;
+	script->sealed = kind->step == SCRIPT_SEALED;
 	if (kind->step == SCRIPT_ANSWERS)
 		script->exchanges++;
 	return kind->step;
@@ -254,15 +257,27 @@ static const char *read_line(struct script *script, int first)
 	return NULL;
 }
 
+/* Whether an exchange would be left unplayed. A sealed line may be the last, where
+ * nothing that makes an exchange stands before it. */
+static bool is_open(const struct script *script)
+{
+	const struct script_exchange *now = &script->now;
+
+	return script->begun && (!script->sealed || now->name[0] != '\0' || script->commanded ||
+		now->asks.given);
+}
+
 /* A script that ends inside an exchange would leave it unplayed, unseen. */
 static enum script_step end(struct script *script)
 {
 	if (ferror(script->stream))
 		return refuse(script, "the file cannot be read");
-	if (script->begun)
+	if (script->now.seal.given)
+		return refuse(script, "the script ends before the sealed line of its last seal line");
+	if (is_open(script))
 		return refuse(script, "the script ends before the answers line of its last exchange");
-	if (script->exchanges == 0)
-		return refuse(script, "the script has no exchange");
+	if (script->exchanges == 0 && !script->sealed)
+		return refuse(script, "the script has no exchange and seals no PIN");
 	return SCRIPT_END;
 }
 

@@ -60,7 +60,8 @@
  * comments and blank lines stands between them. The block goes into a command as
  * any other characters do: by a line that says them. So a script shows what stands
  * on the line to the host, and a block that was sealed under another key can be
- * sent.
+ * sent. A script ends behind an exchange or behind a `sealed` line: one that has
+ * PINs sealed and nothing else needs no exchange.
  */
 #ifndef HOST_SCRIPT_H
 #define HOST_SCRIPT_H
@@ -161,7 +162,9 @@ struct script {
 	bool may_be_open;  /* ? is taken as an expectation */
 	bool alone;        /* one exchange by itself: the key box's blocks may be missing */
 	bool in_command;   /* `more` may follow */
-	bool begun;        /* something stands behind the last `answers` */
+	bool begun;        /* something stands behind the last `answers`, */
+	bool commanded;    /* and a command line among it */
+	bool sealed;       /* the last line was a `sealed` line */
 	unsigned exchanges;
 	struct script_exchange now;
 };
