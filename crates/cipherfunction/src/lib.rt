@@ -1,7 +1,7 @@
 // The cipher function f of FIPS 46-3: E by windows on its input, the boxes joined with P.
 ghost use mathlib.Core.Path.{_≡_};
 ghost use Prim.Native.Nat.{_<_, _≤_};
-ghost use Rattle.fips46.specs.Fips46.{S};
+ghost use Rattle.fips46.specs.Rows.{InRow};
 ghost use Rattle.fips46.specs.Fips46.{f as fOf};
 ghost use Rattle.sboxes.specs.Permuted.{permuted, permutedAll};
 ghost use Rattle.cipherfunction.specs.Windows.{edged, window};
@@ -25,7 +25,7 @@ fn six(n: usize, y: u64, k: u64) -> usize
 // What box n makes of them, permuted by P.
 fn boxed(table: &[u32; 512], n: usize, y: u64, k: u64) -> u32
     requires { ⌜ (now table ≡ permutedAll) × (1 ≤ n) × (n ≤ 8) ⌝ }
-    ensures { λ x. ⌜ (x ≡ permuted n (window n y k)) × (S n (window n y k) < 16) ⌝ }
+    ensures { λ x. ⌜ (x ≡ permuted n (window n y k)) × InRow n (window n y k) ⌝ }
 {
     let b = six(n, y, k);
     sboxes::through(table, n, b)

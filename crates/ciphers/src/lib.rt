@@ -1,5 +1,5 @@
-// The ciphers under keys of bytes: a block of eight bytes and a key come to the word that is written. The tables are lent, so that who
-// ciphers twice makes them once.
+// The ciphers under keys of bytes: a block of eight bytes and a key come to the word that is written. Triple DES is lent its tables, so that
+// who ciphers twice makes them once.
 ghost use mathlib.Core.Path.{_≡_};
 ghost use mathlib.Core.Bool.{true};
 ghost use Prim.Native.Nat.{_+_, _≤_};

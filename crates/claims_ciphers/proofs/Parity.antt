@@ -1,9 +1,9 @@
 -- Odd parity, said a second time.
 -- Assumes nothing.
-use Prim.Native.Nat.{ℕ, zero, suc, _+_, _*_, _/_, _%_, _<_}
+use Prim.Native.Nat.{ℕ, zero, suc, _+_, _*_, _/_, _%_, _^_, _<_}
 use native.Mathlib.Omega.{arith}
 use mathlib.Core.Path.{_≡_, refl, _∙_, ap, ap₂, sym}
-use mathlib.Core.Bool.{Bool, true, false, _&&_}
+use mathlib.Core.Bool.{Bool, true, false, _&&_, false≢true}
 use mathlib.Core.List.{List, [], _∷_}
 use lib.Dec.{eqb}
 use lib.ListN.{length, getD, set, replicate}
@@ -12,7 +12,8 @@ use borrow.Author.Tests.{eqb-true, eqb-false}
 use Rattle.nibbles.specs.Nibbles.{every}
 use Rattle.nibbles.proofs.Lists.{and-left, and-right}
 use Rattle.parity.specs.Parity.{ones, isOdd, oddParity}
-use Rattle.claims_ciphers.specs.Parity.{LastBitDecides, GoodExactly, ParityFigures, EachByteCounts}
+use Rattle.parity.proofs.Laws.{allUnder, under-at}
+use Rattle.claims_ciphers.specs.Parity.{LastBitDecides, EachBitDecides, GoodExactly, ParityFigures, EachByteCounts}
 
 -- ---- the last bit
 
@@ -44,6 +45,31 @@ last-bit-decides b e = by (eqb (ones 8 b % 2) 1) refl
         let m = eqb-false (ones 8 b % 2) 1 t in
         let n = eqb-false (ones 8 (bitXor b 1) % 2) 1 (sym e ∙ t) in
         omega arith
+
+-- ---- each bit: a test over the 256 bytes
+
+abbrev differ : Bool → Bool → Bool
+differ true true = false
+differ true false = true
+differ false true = true
+differ false false = false
+
+differ-apart : (x y : Bool) → differ x y ≡ true → x ≡ y → ⊥
+differ-apart true true t e = false≢true t
+differ-apart true false t e = false≢true (sym e)
+differ-apart false true t e = false≢true e
+differ-apart false false t e = false≢true t
+
+abbrev bitsOf : ℕ → Bool
+bitsOf b = allUnder (λ i. differ (isOdd b) (isOdd (bitXor b (2 ^ i)))) 8
+
+bits-test : allUnder bitsOf 256 ≡ true
+unfolding allUnder isOdd ones
+bits-test = refl
+
+pub each-bit-decides : EachBitDecides
+each-bit-decides b i hb hi =
+    differ-apart (isOdd b) (isOdd (bitXor b (2 ^ i))) (under-at (λ j. differ (isOdd b) (isOdd (bitXor b (2 ^ j)))) 8 (under-at bitsOf 256 bits-test b hb) i hi)
 
 -- ---- a key
 

@@ -1,6 +1,6 @@
 -- Each row of each box holds every value once: from the test over the 512 numbers.
 -- Assumes nothing.
-use Prim.Native.Nat.{ℕ, zero, suc, _+_, _-_, _*_, _/_, _%_, _<_}
+use Prim.Native.Nat.{ℕ, zero, suc, _-_, _<_}
 use native.Mathlib.Nat.{zero-add}
 use native.Mathlib.Omega.{arith}
 use mathlib.Core.Path.{_≡_, refl, _∙_, ap, ap₂, sym}
@@ -9,8 +9,9 @@ use mathlib.Core.List.{List, [], _∷_}
 use lib.Dec.{eqb}
 use lib.ListN.{length, getD}
 use borrow.Author.Tests.{eqb-true, eqb-false}
-use Rattle.fips46.specs.Fips46.{boxes, S}
-use Rattle.fips46.proofs.Rows.{count, rowOf, row-long, row-once}
+use Rattle.fips46.specs.Fips46.{rowOf, iOf, jOf, S}
+use Rattle.fips46.specs.Rows.{count}
+use Rattle.fips46.proofs.Rows.{row-long, row-once}
 use Rattle.claims_ciphers.specs.Rows.{sixBits, RowsHoldEach}
 
 -- ---- what is counted once stands at one place
@@ -53,24 +54,23 @@ once v (x ∷ xs) c = by (eqb x v) refl (λ d. once v xs d)
 
 -- ---- a box's row
 
-row-bits : (i j : ℕ) → i < 4 → j < 16 → sixBits i j / 32 % 2 * 2 + sixBits i j % 2 ≡ i
+row-bits : (i j : ℕ) → i < 4 → j < 16 → iOf (sixBits i j) ≡ i
 row-bits zero j hi hj = omega arith
 row-bits (suc zero) j hi hj = omega arith
 row-bits (suc (suc zero)) j hi hj = omega arith
 row-bits (suc (suc (suc zero))) j hi hj = omega arith
 row-bits (suc (suc (suc (suc i)))) j hi hj = absurd (omega arith)
 
-at-six-bits : (n i j : ℕ) → i < 4 → j < 16 → S n (sixBits i j) ≡ getD (rowOf (n - 1) i) j 0
+at-six-bits : (n i j : ℕ) → i < 4 → j < 16 → S n (sixBits i j) ≡ getD (rowOf n i) j 0
 unfolding S
 at-six-bits n i j hi hj =
-    let column : sixBits i j / 2 % 16 ≡ j = omega arith in
-    ap₂ (λ (r c : ℕ). getD (getD (getD boxes (n - 1) []) r []) c 0) (row-bits i j hi hj) column
+    let column : jOf (sixBits i j) ≡ j = omega arith in
+    ap₂ (λ (r c : ℕ). getD (rowOf n r) c 0) (row-bits i j hi hj) column
 
 pub rows-hold-each : RowsHoldEach
 rows-hold-each n i v h k hi hv =
-    let below : n - 1 < 8 = omega arith in
-    let o : Once v (rowOf (n - 1) i) = once v (rowOf (n - 1) i) (row-once (n - 1) i below hi v hv) in
-    let long : length (rowOf (n - 1) i) ≡ 16 = row-long (n - 1) i below hi in
+    let o : Once v (rowOf n i) = once v (rowOf n i) (row-once n i h k hi v hv) in
+    let long : length (rowOf n i) ≡ 16 = row-long n i h k hi in
     let inside : o .place < 16 = (let p = o .inside in omega arith) in
     record {
       column = o .place;

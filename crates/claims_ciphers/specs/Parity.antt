@@ -1,5 +1,5 @@
 -- That every byte of a key has an odd number of ones, said a second time.
-use Prim.Native.Nat.{ℕ, _<_}
+use Prim.Native.Nat.{ℕ, _^_, _<_}
 use mathlib.Core.Path.{_≡_}
 use mathlib.Core.Logic.{_↔_, _≢_}
 use mathlib.Core.Bool.{true, false}
@@ -12,6 +12,10 @@ use Rattle.claims_ciphers.specs.Figures.{upward, downward}
 -- of a byte and the one whose last bit is changed, exactly one is odd
 abbrev pub LastBitDecides : Type 0
 LastBitDecides = (b : ℕ) → isOdd b ≢ isOdd (bitXor b 1)
+
+-- so with each of its eight bits
+abbrev pub EachBitDecides : Type 0
+EachBitDecides = (b i : ℕ) → b < 256 → i < 8 → isOdd b ≢ isOdd (bitXor b (2 ^ i))
 
 -- a key, of any length, is good exactly where each of its bytes is odd
 abbrev pub GoodExactly : Type 0

@@ -4,20 +4,16 @@ use Prim.Native.Nat.{ℕ, _+_, _-_, _*_, _/_, _%_}
 use mathlib.Core.Path.{_≡_}
 use mathlib.Core.Bool.{true, cond}
 use mathlib.Core.List.{List, [], _∷_, _++_, map}
-use lib.Dec.{eqb, ltb}
+use lib.Dec.{ltb}
 use lib.ListN.{length, take, drop, replicate}
 use Rattle.nibbles.specs.Nibbles.{within, every}
 use Rattle.bits.specs.Nibbled.{from}
+use Rattle.fips46.specs.Rows.{count}
 use Rattle.fips46.specs.Fips46.{IP, E, P, PC1, PC2, shifts}
 
 -- rows of so many columns, by a rule of row and column, both counted from 0
 abbrev pub rows : ℕ → ℕ → (ℕ → ℕ → ℕ) → List ℕ
 rows n columns rule = map (λ k. rule (k / columns) (k % columns)) (from 0 (n * columns))
-
--- how often a number stands in a list
-abbrev pub times : ℕ → List ℕ → ℕ
-times v [] = 0
-times v (x ∷ xs) = cond (eqb x v) (times v xs + 1) (times v xs)
 
 -- ---- IP
 
@@ -36,7 +32,7 @@ ERule = E ≡ rows 8 6 (λ r c. (4 * r + c + 31) % 32 + 1)
 
 -- every place from 1 to 32 once, and no other
 abbrev pub PRule : Type 0
-PRule = (length P ≡ 32) × (map (λ place. times place P) (from 1 32) ≡ replicate 32 1)
+PRule = (length P ≡ 32) × (map (λ place. count place P) (from 1 32) ≡ replicate 32 1)
 
 -- ---- PC1
 
@@ -57,7 +53,7 @@ Pc1Rule =
 -- 48 places, no two alike, of which the first half is in C, 1 to 28, and the second in D, 29 to 56
 abbrev pub Pc2Rule : Type 0
 Pc2Rule = (length PC2 ≡ 48)
-    × (every (within 0 1) (map (λ place. times place PC2) (from 1 56)) ≡ true)
+    × (every (within 0 1) (map (λ place. count place PC2) (from 1 56)) ≡ true)
     × (every (within 1 28) (take 24 PC2) ≡ true)
     × (every (within 29 56) (drop 24 PC2) ≡ true)
 
@@ -69,4 +65,4 @@ sum (x ∷ xs) = x + sum xs
 
 -- one place in the iterations 1, 2, 9 and 16, two in every other; after the last C and D are as they were
 abbrev pub ShiftsRule : Type 0
-ShiftsRule = (shifts ≡ map (λ i. 2 - times i (1 ∷ 2 ∷ 9 ∷ 16 ∷ [])) (from 1 16)) × (sum shifts ≡ 28)
+ShiftsRule = (shifts ≡ map (λ i. 2 - count i (1 ∷ 2 ∷ 9 ∷ 16 ∷ [])) (from 1 16)) × (sum shifts ≡ 28)

@@ -1,26 +1,18 @@
 -- Each row of each box holds every number from 0 to 15 once: one test over the 512 numbers, carried to what a box makes of six bits.
 -- Assumes nothing.
 use mathlib.Core.Path.{_≡_, refl}
-use mathlib.Core.Bool.{Bool, true, false, _&&_}
+use mathlib.Core.Bool.{Bool, true, _&&_}
 use mathlib.Core.Logic.{_⊎_, inl, inr}
 use mathlib.Core.List.{List, [], _∷_}
-use Prim.Native.Nat.{ℕ, zero, suc, _+_, _-_, _*_, _/_, _%_, _<_}
+use Prim.Native.Nat.{ℕ, zero, suc, _-_, _<_, _≤_}
 use native.Mathlib.Nat.{eq-or-lt-of-le, le-of-suc-le-suc}
 use native.Mathlib.Omega.{arith}
 use lib.Dec.{eqb, ltb}
 use lib.ListN.{length, getD}
 use borrow.Author.Tests.{eqb-true, ltb-true}
 use Rattle.nibbles.proofs.Lists.{and-left, and-right}
-use Rattle.fips46.specs.Fips46.{S1, S2, S3, S4, S5, S6, S7, S8, boxes, S}
-
-abbrev one : Bool → ℕ
-one true = 1
-one false = 0
-
--- how often a number stands in a row
-abbrev pub count : ℕ → List ℕ → ℕ
-count v [] = 0
-count v (x ∷ xs) = one (eqb x v) + count v xs
+use Rattle.fips46.specs.Fips46.{S1, S2, S3, S4, S5, S6, S7, S8, boxes, rowOf, iOf, jOf, S}
+use Rattle.fips46.specs.Rows.{count, InRow}
 
 -- every number below n stands there once
 abbrev pub onceEach : ℕ → List ℕ → Bool
@@ -79,9 +71,9 @@ boxes-below (b ∷ bs) t zero i j = rows-below b (and-right (eqb (length b) 4) (
 boxes-below (b ∷ bs) t (suc n) i j = boxes-below bs (and-right (isBox b) (areBoxes bs) t) n i j
 
 -- what a box makes of six bits has four
-pub S-below : (n b : ℕ) → S n b < 16
+S-below : (n b : ℕ) → S n b < 16
 unfolding S
-S-below n b = boxes-below boxes boxes-hold (n - 1) (b / 32 % 2 * 2 + b % 2) (b / 2 % 16)
+S-below n b = boxes-below boxes boxes-hold (n - 1) (iOf b) (jOf b)
 
 -- ---- and to each row
 
@@ -98,17 +90,13 @@ once-at (suc n) row t v h = choose (eq-or-lt-of-le (le-of-suc-le-suc h)) (λ l. 
     choose (inl e) below = rw e (eqb-true (count n row) 1 (and-left (eqb (count n row) 1) (onceEach n row) t))
     choose (inr l) below = below l
 
--- row i of box n, both counted from 0
-abbrev pub rowOf : ℕ → ℕ → List ℕ
-rowOf n i = getD (getD boxes n []) i []
-
 -- sixteen numbers, in which each below 16 stands once
-module _ (n i : ℕ) (hn : n < 8) (hi : i < 4) where
+module _ (n i : ℕ) (h : 1 ≤ n) (k : n ≤ 8) (hi : i < 4) where
   row-is : isRow (rowOf n i) ≡ true
   unfolding boxes
   row-is =
-      let box : List (List ℕ) = getD boxes n [] in
-      let t : isBox box ≡ true = box-at boxes boxes-hold n hn in
+      let box : List (List ℕ) = getD boxes (n - 1) [] in
+      let t : isBox box ≡ true = box-at boxes boxes-hold (n - 1) (omega arith) in
       let four : length box ≡ 4 = eqb-true (length box) 4 (and-left (eqb (length box) 4) (areRows box) t) in
       row-at box (and-right (eqb (length box) 4) (areRows box) t) i (omega arith)
 
@@ -117,3 +105,7 @@ module _ (n i : ℕ) (hn : n < 8) (hi : i < 4) where
 
   pub row-once : (v : ℕ) → v < 16 → count v (rowOf n i) ≡ 1
   row-once = once-at 16 (rowOf n i) (and-right (allBelow 16 (rowOf n i)) (onceEach 16 (rowOf n i)) (and-right (eqb (length (rowOf n i)) 16) (allBelow 16 (rowOf n i) && onceEach 16 (rowOf n i)) row-is))
+
+-- so of what a box makes of six bits
+pub in-row : (n b : ℕ) → 1 ≤ n → n ≤ 8 → InRow n b
+in-row n b h k = record { four = S-below n b; once = row-once n (iOf b) h k (omega arith) (S n b) (S-below n b) }

@@ -1,5 +1,5 @@
 -- Deciphering undoes enciphering, and the other way round, for every key and block: from the iterations' shape, whatever the boxes
--- hold. Of the permutations only that IP and its inverse undo each other.
+-- hold. Of the permutations only that IP and its inverse undo each other, and that P gives 32 bits.
 -- Assumes nothing.
 use mathlib.Core.Path.{_≡_, refl, _∙_, ap, ap₂, sym}
 use mathlib.Core.Bool.{true}

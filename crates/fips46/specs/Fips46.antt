@@ -1,5 +1,5 @@
--- The data encryption standard, FIPS 46-3, in its words and in its order. A block is the number that its bits spell, the first bit
--- highest; bits are counted from the left, from 1.
+-- The data encryption standard, FIPS 46-3, in its words: enciphering, the cipher function, the key schedule. A block is the number that
+-- its bits spell, the first bit highest; bits are counted from the left, from 1.
 use Prim.Native.Nat.{ℕ, _+_, _-_, _*_, _/_, _%_, _^_}
 use mathlib.Core.List.{List, [], _∷_, reverse}
 use lib.ListN.{getD}
@@ -70,7 +70,7 @@ E =
     28 ∷ 29 ∷ 30 ∷ 31 ∷ 32 ∷ 1 ∷
     []
 
--- "the selection functions S1, ..., S8": of each its four rows
+-- the selection functions S1 to S8: of each its four rows
 
 unfoldable pub S1 : List (List ℕ)
 S1 =
@@ -139,11 +139,21 @@ S8 =
 unfoldable pub boxes : List (List (List ℕ))
 boxes = S1 ∷ S2 ∷ S3 ∷ S4 ∷ S5 ∷ S6 ∷ S7 ∷ S8 ∷ []
 
--- "The first and last bits of B represent in base 2 a number in the range 0 to 3. Let that number be i. The middle 4 bits of B
--- represent in base 2 a number in the range 0 to 15. Let that number be j. Look up in the table the number in the i'th row and j'th
--- column."
+-- row i of box n, of which the boxes are counted from 1 and the rows from 0
+abbrev pub rowOf : ℕ → ℕ → List ℕ
+rowOf n i = getD (getD boxes (n - 1) []) i []
+
+-- "The first and last bits of B represent in base 2 a number in the range 0 to 3. Let that number be i."
+abbrev pub iOf : ℕ → ℕ
+iOf b = b / 32 % 2 * 2 + b % 2
+
+-- "The middle 4 bits of B represent in base 2 a number in the range 0 to 15. Let that number be j."
+abbrev pub jOf : ℕ → ℕ
+jOf b = b / 2 % 16
+
+-- "Look up in the table the number in the i'th row and j'th column."
 unfoldable pub S : ℕ → ℕ → ℕ
-S n b = getD (getD (getD boxes (n - 1) []) (b / 32 % 2 * 2 + b % 2) []) (b / 2 % 16) 0
+S n b = getD (rowOf n (iOf b)) (jOf b) 0
 
 -- "the permutation function P"
 unfoldable pub P : List ℕ
@@ -206,7 +216,7 @@ PC2 =
     46 ∷ 42 ∷ 50 ∷ 36 ∷ 29 ∷ 32 ∷
     []
 
--- "the number of left shifts", iteration after iteration
+-- the number of left shifts, iteration after iteration
 unfoldable pub shifts : List ℕ
 shifts =
     1 ∷ 1 ∷ 2 ∷ 2 ∷ 2 ∷ 2 ∷ 2 ∷ 2 ∷
@@ -222,7 +232,7 @@ unfoldable pub scheduled : List ℕ → ℕ → ℕ → List ℕ
 scheduled [] c d = []
 scheduled (n ∷ ns) c d = select 56 PC2 (rotated n c * 2 ^ 28 + rotated n d) ∷ scheduled ns (rotated n c) (rotated n d)
 
--- K1 to K16 of a key: permuted choice 1 gives the first C and D
+-- KS(1, KEY) to KS(16, KEY), which are K1 to K16: permuted choice 1 gives the first C and D
 unfoldable pub KS : ℕ → List ℕ
 KS key = scheduled shifts (select 64 PC1 key / 2 ^ 28) (select 64 PC1 key % 2 ^ 28)
 

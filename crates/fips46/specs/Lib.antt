@@ -1,1 +1,2 @@
 pub mod Fips46
+pub mod Rows

@@ -16,11 +16,11 @@ use Rattle.nibbles.proofs.Lists.{and-left, and-right}
 use Rattle.parity.specs.Parity.{ones, isOdd, oddParity, folded}
 
 -- the test holds of every number below n
-unfoldable allUnder : (ℕ → Bool) → ℕ → Bool
+unfoldable pub allUnder : (ℕ → Bool) → ℕ → Bool
 allUnder p zero = true
 allUnder p (suc n) = p n && allUnder p n
 
-under-at : (p : ℕ → Bool) (n : ℕ) → allUnder p n ≡ true → (k : ℕ) → k < n → p k ≡ true
+pub under-at : (p : ℕ → Bool) (n : ℕ) → allUnder p n ≡ true → (k : ℕ) → k < n → p k ≡ true
 unfolding allUnder
 under-at p zero t k h = absurd (omega arith)
 under-at p (suc n) t k h = choose (eq-or-lt-of-le (le-of-suc-le-suc h)) (λ l. under-at p n (and-right (p n) (allUnder p n) t) k l)

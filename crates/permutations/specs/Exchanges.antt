@@ -16,7 +16,8 @@ back w =
 unfoldable pub flip : ℕ → ℕ
 flip w = exchanged 36 0x0F0F0F0F (exchanged 18 0x0000333300003333 (exchanged 9 0x0055005500550055 w))
 
--- permuted choice 1 of a key that was flipped: its rows from the last to the fourth, of which one half goes to C and one to D
+-- permuted choice 1 of a key that was flipped: C has its rows from the last up and the first half of the fourth from there, D those from
+-- the second on and the other half
 unfoldable pub arranged : ℕ → ℕ
 arranged x =
     bitXor (bitXor (bitXor (bitXor (bitXor (x % 2 ^ 8 * 2 ^ 48)

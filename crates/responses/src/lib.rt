@@ -107,7 +107,7 @@ impl Answered {
     }
 }
 
-// Writes the block, or nothing.
+// Writes the block that the key box must encipher, or nothing.
 pub fn ask(asked: Asked, out: &mut [u8]) -> Told
     requires { ⌜ RoomToAsk asked (length (now out)) ⌝ }
     ensures { λ r. ⌜ Does (quietly (heard (askedBytes asked))) (now (out .entry)) (r .reply) (now (out .exit)) × (r .pointer ≡ shown (askedBytes asked)) ⌝ }

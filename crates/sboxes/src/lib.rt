@@ -1,7 +1,7 @@
 // The boxes S1 to S8 joined with P: for each box the 64 words that P makes of its four bits, and nothing else.
 ghost use mathlib.Core.Path.{_≡_};
 ghost use Prim.Native.Nat.{_<_, _≤_};
-ghost use Rattle.fips46.specs.Fips46.{S};
+ghost use Rattle.fips46.specs.Rows.{InRow};
 ghost use Rattle.sboxes.specs.Permuted.{permuted, permutedAll};
 
 const PERMUTED: [u32; 512] = [
@@ -529,7 +529,7 @@ pub fn table() -> [u32; 512]
 // What box n makes of six bits, permuted by P.
 pub fn through(table: &[u32; 512], n: usize, bits: usize) -> u32
     requires { ⌜ (now table ≡ permutedAll) × (1 ≤ n) × (n ≤ 8) × (bits < 64) ⌝ }
-    ensures { λ r. ⌜ (r ≡ permuted n bits) × (S n bits < 16) ⌝ }
+    ensures { λ r. ⌜ (r ≡ permuted n bits) × InRow n bits ⌝ }
 {
     table[(n - 1) * 64 + bits]
 }

@@ -49,10 +49,10 @@ returns c =
     f-is (a .r) (a .k) (c0 .edges .result) h (c0 .edges .ensures)
     (c1 .boxed .result) (c2 .boxed2 .result) (c3 .boxed3 .result) (c4 .boxed4 .result)
     (c5 .boxed5 .result) (c6 .boxed6 .result) (c7 .boxed7 .result) (c .boxed8 .result)
-    (record { word = c1 .boxed .ensures .0; four = c1 .boxed .ensures .1 }) (record { word = c2 .boxed2 .ensures .0; four = c2 .boxed2 .ensures .1 })
-    (record { word = c3 .boxed3 .ensures .0; four = c3 .boxed3 .ensures .1 }) (record { word = c4 .boxed4 .ensures .0; four = c4 .boxed4 .ensures .1 })
-    (record { word = c5 .boxed5 .ensures .0; four = c5 .boxed5 .ensures .1 }) (record { word = c6 .boxed6 .ensures .0; four = c6 .boxed6 .ensures .1 })
-    (record { word = c7 .boxed7 .ensures .0; four = c7 .boxed7 .ensures .1 }) (record { word = c .boxed8 .ensures .0; four = c .boxed8 .ensures .1 })
+    (record { word = c1 .boxed .ensures .0; four = c1 .boxed .ensures .1 .four }) (record { word = c2 .boxed2 .ensures .0; four = c2 .boxed2 .ensures .1 .four })
+    (record { word = c3 .boxed3 .ensures .0; four = c3 .boxed3 .ensures .1 .four }) (record { word = c4 .boxed4 .ensures .0; four = c4 .boxed4 .ensures .1 .four })
+    (record { word = c5 .boxed5 .ensures .0; four = c5 .boxed5 .ensures .1 .four }) (record { word = c6 .boxed6 .ensures .0; four = c6 .boxed6 .ensures .1 .four })
+    (record { word = c7 .boxed7 .ensures .0; four = c7 .boxed7 .ensures .1 .four }) (record { word = c .boxed8 .ensures .0; four = c .boxed8 .ensures .1 .four })
 
 pub f-spec : {M : Type 1} → statement M
 f-spec =
