@@ -50,19 +50,21 @@ pub fn read(restricted: bool, command: &[u8], start: Cursor) -> BkRead
     let KeysRead::Got(keys, at_block) = keyed else {
         return BkRead::Bad(keyed.fault());
     };
-    let blocked = sealed::read_sealed(command, at_block, 4, restricted);
+    // A name of its own: under one, the keys above would wait until the slice is copied for the calls below (docs/BENCH.md).
+    let text = command;
+    let blocked = sealed::read_sealed(text, at_block, 4, restricted);
     let SealedRead::Got(sealed, at_check) = blocked else {
         return BkRead::Bad(blocked.fault());
     };
-    let data = offsetting::read_offsetting(command, at_check, 6);
+    let data = offsetting::read_offsetting(text, at_check, 6);
     let OffsettingRead::Got(offsetting, at_weak) = data else {
         return BkRead::Bad(data.fault());
     };
-    let listed = weaklist::read_weak(command, at_weak, 10, WEAK_MARK);
+    let listed = weaklist::read_weak(text, at_weak, 10, WEAK_MARK);
     let WeakStage::Got(weak, at_end) = listed else {
         return BkRead::Bad(listed.fault());
     };
-    let ended = endings::read_end(command, at_end, 11, keys);
+    let ended = endings::read_end(text, at_end, 11, keys);
     let End::At(trailer) = ended else {
         return BkRead::Bad(ended.fault());
     };

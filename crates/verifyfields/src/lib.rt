@@ -79,19 +79,21 @@ pub fn read(pinkey: Use, command: &[u8], start: Cursor) -> VerificationRead
     let KeysRead::Got(keys, at_block) = keyed else {
         return VerificationRead::Bad(keyed.fault());
     };
-    let blocked = sealed::read_sealed(command, at_block, 4, RESTRICTED);
+    // A name of its own: under one, the keys above would wait until the slice is copied for the calls below (docs/BENCH.md).
+    let text = command;
+    let blocked = sealed::read_sealed(text, at_block, 4, RESTRICTED);
     let SealedRead::Got(sealed, at_check) = blocked else {
         return VerificationRead::Bad(blocked.fault());
     };
-    let data = offsetting::read_offsetting(command, at_check, 6);
+    let data = offsetting::read_offsetting(text, at_check, 6);
     let OffsettingRead::Got(offsetting, at_offset) = data else {
         return VerificationRead::Bad(data.fault());
     };
-    let shown = offsetfield::offset_field(at_offset, command);
+    let shown = offsetfield::offset_field(at_offset, text);
     let Value::Got(digits, at_end) = shown else {
         return VerificationRead::Bad(fields::fault_at(Refusal::Field15, 10, at_offset));
     };
-    let ended = endings::read_end(command, at_end, 11, keys);
+    let ended = endings::read_end(text, at_end, 11, keys);
     let End::At(trailer) = ended else {
         return VerificationRead::Bad(ended.fault());
     };
