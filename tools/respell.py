@@ -17,8 +17,8 @@ WORD = re.compile(r"[^\s(){}.,;:|`]+")
 DECLARED = re.compile(r"^((?:abbrev |unfoldable |pub |data |record |ruleset )*)([^\s:(){}=]+)(?: [({].*)? :(?: |$)")
 RULESET = re.compile(r"^(?:pub )?ruleset (\S+)")
 RECORD = re.compile(r"^(?:pub )?(?:record|data) (\S+)")
-INNER = re.compile(r"^  (?:pub )?([^\s:|(){}=]+) : ")
-NEED = re.compile(r" : tie\.")
+INNER = re.compile(r"^ +(?:abbrev |unfoldable |pub )*([^\s:|(){}=]+)(?: [({].*?)? :(?: |$)")
+NEED = re.compile(r" : (tie|goal)\.")
 
 # What a rule cannot spell: facts, and names that would fall together with another.
 BY_HAND = {
@@ -28,15 +28,18 @@ BY_HAND = {
     "getD-from": "get_or_from",
     "onlyUOrT": "only_u_or_t",
     "runP9In34": "run_p9_in_34",
+    "naturalDigit": "digit_of_natural",
+    "pinDigit": "digit_of_pin",
+    "lastFive": "five_last",
 }
 
-# Where a file has a name of its own that a definition's new name would meet.
+# Where a file has a name of its own that a definition's new name would meet, and that definition.
 IN_FILE = {
-    ("crates/bk/proofs/Calls.antt", "box_read"): "box_answer",
-    ("crates/verify/proofs/Calls.antt", "box_read"): "box_answer",
-    ("crates/claims_exactly/proofs/Responses.antt", "is_framed"): "is_framed_lem",
-    ("crates/claims_exactly/proofs/Sent.antt", "is_framed"): "is_framed_lem",
-    ("crates/texts/proofs/Whole.antt", "read_back"): "read_back_lem",
+    ("crates/bk/proofs/Calls.antt", "box_read"): ("box_answer", "boxRead"),
+    ("crates/verify/proofs/Calls.antt", "box_read"): ("box_answer", "boxRead"),
+    ("crates/claims_exactly/proofs/Responses.antt", "is_framed"): ("is_framed_lem", "isFramed"),
+    ("crates/claims_exactly/proofs/Sent.antt", "is_framed"): ("is_framed_lem", "isFramed"),
+    ("crates/texts/proofs/Whole.antt", "read_back"): ("read_back_lem", "readBack"),
 }
 
 
@@ -61,7 +64,7 @@ def snake(name):
         return BY_HAND[name]
     if "-" in name:
         return name if name[0].isupper() else name.replace("-", "_")
-    if re.match(r"^[a-z].*[A-Z]", name):
+    if re.match(r"^[a-z].*[A-Z]", name) and "_" not in name:
         out = ""
         for i, c in enumerate(name):
             before = name[i - 1] if i else ""
@@ -90,7 +93,7 @@ def declared(root):
                 if m and not (own and NEED.search(line)):
                     found.setdefault(m.group(2), path)
                 m = RULESET.match(line) or RECORD.match(line) or INNER.match(line)
-                if m:
+                if m and not (own and NEED.search(line)) and not re.search(r"[λ∀{]", m.group(1)):
                     found.setdefault(m.group(1), path)
     return found
 
@@ -106,6 +109,7 @@ def code_of(line, path):
 def turn_text(text, path, table, seen=None):
     own = of_function(path)
     where = path[path.index("/crates/") + 1:]
+    aliases = set(re.findall(r"^use \S+ as (\S+)$", text, re.M)) - {"goal", "tie"}
     if "/claims_functions/" in path:
         table = {n: s[:-4] if s.endswith("_lem") else s for n, s in table.items()}
     out = []
@@ -116,11 +120,14 @@ def turn_text(text, path, table, seen=None):
 
         def one(m):
             word = m.group(0)
-            new = table.get(word, IN_FILE.get((where, word), word))
+            own_name, met = IN_FILE.get((where, word), (word, word))
+            new = table.get(word, own_name if met in table else word)
             at = m.start()
             if new != word and "-" in word and at and code[at - 1] == ".":
                 head = re.search(r"([^\s(){}.,;:|`]+)\.$", code[:at])
-                if own or path.endswith((".rt", ".edit")) or not head or not head.group(1)[0].isupper():
+                if head and head.group(1) in aliases:
+                    pass
+                elif own or path.endswith((".rt", ".edit")) or not head or not head.group(1)[0].isupper():
                     if own or word not in FIELDS:
                         new = word
             if seen is not None:

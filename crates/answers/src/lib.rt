@@ -1,4 +1,6 @@
 // What a call answers with: a block, a PIN's digits, or the refusal that stands in their place.
+#![tactic(auto)]
+
 ghost use Rattle.std.specs.Prelude.{length};
 ghost use Rattle.nibbles.specs.Nibbles.{row};
 ghost use Rattle.numbers.specs.Promise.{Does, quietly};

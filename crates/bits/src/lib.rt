@@ -1,4 +1,6 @@
 // Words of bits: an exchange of bits, and a function that is held as a table over the nibbles.
+#![tactic(auto)]
+
 ghost use Rattle.std.specs.Prelude.{◌≡◌, ◌*◌, ◌/◌, ◌%◌, ◌^◌, ◌<◌, ◌≤◌, length};
 ghost use Rattle.bits.specs.Exchange.{exchanged};
 ghost use Rattle.bits.specs.Nibbled.{looked};

@@ -1,4 +1,6 @@
 // The BK command: its asking call, its PIN block's and its answering call.
+#![tactic(auto)]
+
 ghost use Rattle.std.specs.Prelude.{◌≡◌};
 ghost use Rattle.responses.specs.Answers.{asked_of, answered_of};
 ghost use Rattle.bk.specs.Bk.{bk_ask, bk_extract, bk_answer};

@@ -1,4 +1,6 @@
 // The fields of a BK command: its stages joined.
+#![tactic(auto)]
+
 ghost use Rattle.std.specs.Prelude.{◌≡◌};
 ghost use Rattle.bkfields.specs.BkFields.{bk_fields};
 ghost use Rattle.bkfields.specs.Answers.{bk_read, fields_fault};
@@ -16,7 +18,7 @@ use weaklist::WeakStage;
 const WEAK_MARK: u8 = b';';
 
 // The fields of a BK: places, and the few values that its finish needs.
-#[derive(Drop)]
+#[derive(Clone, Copy)]
 pub struct Bk {
     pub sealed: Sealed,
     pub offsetting: Offsetting,
@@ -24,7 +26,7 @@ pub struct Bk {
     pub trailer: usize,
 }
 
-#[derive(Drop)]
+#[derive(Clone, Copy)]
 pub enum BkRead {
     Got(Bk),
     Bad(Fault),

@@ -1,4 +1,6 @@
 // The finish of a BK command: the offset, unless the PIN is weak.
+#![tactic(auto)]
+
 ghost use Rattle.std.specs.Prelude.{◌≡◌};
 ghost use Rattle.pins.specs.Answers.{reading_of};
 ghost use Rattle.pairing.specs.Answers.{box_rows};

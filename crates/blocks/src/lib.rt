@@ -1,4 +1,6 @@
 // Reading and writing PIN blocks of the six formats: one pair of functions over the table of formats.
+#![tactic(auto)]
+
 ghost use Rattle.std.specs.Prelude.{◌≡◌, ◌++◌, map, ◌+◌, ◌^◌, ◌<◌, ◌≤◌, length, drop};
 ghost use Rattle.std.proofs.Math.Seq.{slice};
 ghost use Rattle.nibbles.specs.Nibbles.{word, row, within, leading};

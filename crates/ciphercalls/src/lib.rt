@@ -1,4 +1,6 @@
 // The calls of the ciphers: DES and triple DES of a block, either way, and the check value of a key.
+#![tactic(auto)]
+
 ghost use Rattle.std.specs.Prelude.{length};
 ghost use Rattle.numbers.specs.Promise.{Does, quietly};
 ghost use Rattle.ciphercalls.specs.CipherCalls.{des_call, triple_call, key_check};

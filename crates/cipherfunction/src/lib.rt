@@ -1,4 +1,6 @@
 // The cipher function f of FIPS 46-3: E by windows on its input, the boxes joined with P.
+#![tactic(auto)]
+
 ghost use Rattle.std.specs.Prelude.{◌≡◌, ◌<◌, ◌≤◌};
 ghost use Rattle.fips46.specs.Rows.{InRow};
 ghost use Rattle.fips46.specs.Fips46.{f as f_of};

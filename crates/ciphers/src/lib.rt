@@ -1,12 +1,14 @@
 // The ciphers under keys of bytes: a block of eight bytes and a key come to the word that is written. Triple DES is lent its tables, so that
 // who ciphers twice makes them once.
+#![tactic(auto)]
+
 ghost use Rattle.std.specs.Prelude.{◌≡◌, true, ◌+◌, ◌≤◌, length};
 ghost use Rattle.fips46.specs.Fips46.{KS};
 ghost use Rattle.sboxes.specs.Permuted.{permuted_all};
 ghost use Rattle.keyschedule.specs.Choices.{choices};
 ghost use Rattle.ciphers.specs.Ciphers.{is_lab_key, key_at, des_word, triple_word, computed_once, computed_thrice};
 
-#[derive(Drop)]
+#[derive(Clone, Copy)]
 pub enum Way {
     Encipher,
     Decipher,

@@ -1,1 +1,3 @@
 // The demands about PIN blocks, as laws over the definitions.
+
+#![tactic(auto)]

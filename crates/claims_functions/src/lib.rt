@@ -1,1 +1,3 @@
 // That the contract of every public function admits one answer.
+
+#![tactic(auto)]

@@ -1,1 +1,3 @@
 // What the server is shown of refused commands, as tables of literals.
+
+#![tactic(auto)]

@@ -1,5 +1,7 @@
 // What the programs share: the paper's exchange, and a block as text. Nothing here writes: no contract can say what reaches a
 // terminal, so a function that writes promises nothing and is a program's own.
+#![tactic(auto)]
+
 ghost use Rattle.std.specs.Prelude.{◌≡◌, ◌<◌};
 ghost use Rattle.classroom.specs.Text.{character_of, spelled};
 

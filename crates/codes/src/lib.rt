@@ -1,4 +1,6 @@
 // The codes that name the formats, and the width of a block.
+#![tactic(auto)]
+
 ghost use Rattle.std.specs.Prelude.{◌≡◌};
 ghost use Rattle.codes.specs.Codes.{code_of, is_known, format_of, block_width};
 ghost use Rattle.codes.specs.Answers.{chosen_of, refusal_in};
@@ -7,7 +9,7 @@ use formats::Format;
 use numbers::Refusal;
 
 // What a format code names.
-#[derive(Drop)]
+#[derive(Clone, Copy)]
 pub enum Code {
     Built(Format),
     Known,
@@ -15,7 +17,7 @@ pub enum Code {
 }
 
 // The format of a code, or why it has none here.
-#[derive(Drop)]
+#[derive(Clone, Copy)]
 pub enum Chosen {
     Of(Format),
     Bad(Refusal),

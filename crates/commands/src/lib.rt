@@ -1,4 +1,6 @@
 // The calls of a host command, whatever its code: the asking call, the PIN block's and the answering call.
+#![tactic(auto)]
+
 ghost use Rattle.std.specs.Prelude.{◌≡◌, ◌+◌, ◌≤◌, length, drop};
 ghost use Rattle.numbers.specs.Promise.{Does, quietly};
 ghost use Rattle.frame.specs.Frame.{code_of};

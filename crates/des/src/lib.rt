@@ -1,4 +1,6 @@
 // DES of a block, by the blocks of key bits of a key: the iterations, from the first on and from the last, between IP and its inverse.
+#![tactic(auto)]
+
 ghost use Rattle.std.specs.Prelude.{◌≡◌, reverse};
 ghost use Rattle.fips46.specs.Fips46.{f, halves, whole, iteration, iterations, interchanged, computed};
 ghost use Rattle.sboxes.specs.Permuted.{permuted_all};

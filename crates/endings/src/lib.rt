@@ -1,4 +1,6 @@
 // The end of a command: LMK id and trailer, then nothing is left over, and the LMK ids agree.
+#![tactic(auto)]
+
 ghost use Rattle.std.specs.Prelude.{◌≡◌, ◌≤◌};
 ghost use Rattle.endings.specs.Endings.{all_agree, last_id, end};
 ghost use Rattle.endings.specs.Answers.{end_of, end_fault};
@@ -9,7 +11,7 @@ use lmk::{Keyed, Lmk};
 use numbers::Refusal;
 
 // Where the trailer's mark stands, or the command's end where there is none.
-#[derive(Drop)]
+#[derive(Clone, Copy)]
 pub enum End {
     At(usize),
     Bad(Fault),

@@ -1,4 +1,6 @@
 // What crosses the C face: settings, in and out, and replies.
+#![tactic(auto)]
+
 ghost use Rattle.std.specs.Prelude.{◌≡◌, ◌≤◌};
 ghost use Rattle.fields.specs.Fields.{nowhere};
 ghost use Rattle.face.specs.Face.{settings_of, flag_of, reply_in, pointer_in};
@@ -9,7 +11,7 @@ use settings::Settings;
 
 // The settings as they cross the boundary: a foreign bool may hold anything, so a flag is a byte.
 #[repr(C)]
-#[derive(Drop)]
+#[derive(Clone, Copy)]
 pub struct FaceSettings {
     pub header: usize,
     pub restricted: u8,
@@ -34,7 +36,7 @@ pub fn flag(yes: bool) -> u8
 
 // A reply as it crosses the boundary: what every call answers, and what a command's call points at.
 #[repr(C)]
-#[derive(Drop)]
+#[derive(Clone, Copy)]
 pub struct FaceReply {
     pub number: u32,
     pub written: u32,

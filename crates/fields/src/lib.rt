@@ -1,4 +1,6 @@
 // The command cursor, and a reader for each kind of field.
+#![tactic(auto)]
+
 ghost use Rattle.std.specs.Prelude.{◌≡◌, ◌+◌, ◌-◌, ◌*◌, ◌≤◌, length, take, drop};
 ghost use Rattle.alphabet.specs.Alphabet.{all_of, value_of};
 ghost use Rattle.fields.specs.Fields.{run, number, marked, trailer, pointer_of};
@@ -12,27 +14,27 @@ const TRAILER_MARK: u8 = 0x19;
 const LONGEST_TRAILER: usize = 32;
 
 // Where the next field begins.
-#[derive(Drop)]
+#[derive(Clone, Copy)]
 pub struct Cursor {
     pub at: usize,
 }
 
 // A field's value and the cursor behind it, or why there is none.
-#[derive(Drop)]
+#[derive(Clone, Copy)]
 pub enum Value {
     Got(usize, Cursor),
     Bad(Refusal),
 }
 
 // The cursor behind a mark, where the mark is.
-#[derive(Drop)]
+#[derive(Clone, Copy)]
 pub enum Mark {
     Behind(Cursor),
     Absent,
 }
 
 // Why a command is refused: the refusal, the number of its field and the place where that field begins.
-#[derive(Drop)]
+#[derive(Clone, Copy)]
 pub struct Fault {
     pub refusal: Refusal,
     pub field: usize,
@@ -40,7 +42,7 @@ pub struct Fault {
 }
 
 // What the server is shown of a fault beside its number.
-#[derive(Drop)]
+#[derive(Clone, Copy)]
 pub struct Pointer {
     pub place: usize,
     pub field: usize,

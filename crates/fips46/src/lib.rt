@@ -1,5 +1,7 @@
 // The two halves of a block between the iterations. What FIPS 46-3 defines is in specs/.
-#[derive(Drop)]
+#![tactic(auto)]
+
+#[derive(Clone, Copy)]
 pub struct Halves {
     pub left: u32,
     pub right: u32,

@@ -1,4 +1,6 @@
 // The format of a command: its field, and which formats are allowed in it.
+#![tactic(auto)]
+
 ghost use Rattle.std.specs.Prelude.{◌≡◌, drop};
 ghost use Rattle.formatfield.specs.FormatField.{allows, format_field};
 ghost use Rattle.formatfield.specs.Answers.{format_read, format_refusal};
@@ -9,7 +11,7 @@ use formats::Format;
 use numbers::Refusal;
 
 // The format and the cursor behind it, or why there is none.
-#[derive(Drop)]
+#[derive(Clone, Copy)]
 pub enum FormatRead {
     Got(Format, Cursor),
     Bad(Refusal),

@@ -1,8 +1,10 @@
 // The table of PIN block formats.
+#![tactic(auto)]
+
 ghost use Rattle.std.specs.Prelude.{◌≡◌};
 ghost use Rattle.formats.specs.Formats.{lead_of, fill_of, veiled, lead_width, least_fill, filled, is01or47};
 
-#[derive(Drop)]
+#[derive(Clone, Copy)]
 pub enum Format {
     F01,
     F03,
@@ -13,14 +15,14 @@ pub enum Format {
 }
 
 // What leads the digits: nothing, or C and the PIN's length.
-#[derive(Drop)]
+#[derive(Clone, Copy)]
 pub enum Lead {
     Bare,
     Control(u8),
 }
 
 // The nibbles behind the digits.
-#[derive(Drop)]
+#[derive(Clone, Copy)]
 pub enum Fill {
     F,
     AToF,

@@ -1,4 +1,6 @@
 // The frame of a command, and the bytes that a response opens with.
+#![tactic(auto)]
+
 ghost use Rattle.std.specs.Prelude.{◌≡◌, ◌∷◌, ◌++◌, ◌+◌, ◌≤◌, length, get_or, drop};
 ghost use Rattle.frame.specs.Frame.{is_framed, code_of, raised, in_two_digits, opening};
 
@@ -14,7 +16,7 @@ const DA: [u8; 2] = *b"DA";
 const EA: [u8; 2] = *b"EA";
 
 // The commands that there are, by their codes.
-#[derive(Drop)]
+#[derive(Clone, Copy)]
 pub enum Code {
     Bk,
     Da,

@@ -1,4 +1,6 @@
 // The IBM 3624 method over values: signed differences and offset.
+#![tactic(auto)]
+
 ghost use Rattle.std.specs.Prelude.{◌≡◌, ◌++◌, ◌≤◌, length, drop};
 ghost use Rattle.nibbles.specs.Nibbles.{word, row};
 ghost use Rattle.pins.specs.Answers.{count_of};

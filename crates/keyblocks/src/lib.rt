@@ -1,4 +1,6 @@
 // Key blocks, from the version byte on.
+#![tactic(auto)]
+
 ghost use Rattle.std.specs.Prelude.{◌≡◌, drop};
 ghost use Rattle.lmk.specs.Answers.{keyed_from};
 ghost use Rattle.keyblocks.specs.KeyBlocks.{key_block};

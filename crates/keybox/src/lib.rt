@@ -1,4 +1,6 @@
 // What the key box answered, judged.
+#![tactic(auto)]
+
 ghost use Rattle.std.specs.Prelude.{◌≡◌};
 ghost use Rattle.keybox.specs.KeyBox.{slices, parities, boxed};
 ghost use Rattle.keybox.specs.Answers.{sliced_of, parity_of, box_read, box_fault};
@@ -8,27 +10,27 @@ use numbers::Refusal;
 use pins::Row;
 
 // The rows that the key box answered: the deciphered PIN block and the enciphered validation block.
-#[derive(Drop)]
+#[derive(Clone, Copy)]
 pub struct Boxed {
     pub block: u64,
     pub enciphered: u64,
 }
 
 // The two slices' rows, where each has eight bytes.
-#[derive(Drop)]
+#[derive(Clone, Copy)]
 pub enum Sliced {
     Rows(Boxed),
     Short,
 }
 
 // Both parities are good, or which is not.
-#[derive(Drop)]
+#[derive(Clone, Copy)]
 pub enum Parity {
     Good,
     Bad(Refusal),
 }
 
-#[derive(Drop)]
+#[derive(Clone, Copy)]
 pub enum BoxRead {
     Got(Boxed),
     Bad(Fault),

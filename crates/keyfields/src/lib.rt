@@ -1,4 +1,6 @@
 // Stages of commands: two keys; key type and two keys.
+#![tactic(auto)]
+
 ghost use Rattle.std.specs.Prelude.{◌≡◌, ◌≤◌};
 ghost use Rattle.keyfields.specs.KeyFields.{key_pair, keys};
 ghost use Rattle.keyfields.specs.Answers.{keys_read, keys_fault};
@@ -10,7 +12,7 @@ use numbers::Refusal;
 use uses::Use;
 
 // The LMK ids of two keys, and the number and the place of the second key's field.
-#[derive(Drop)]
+#[derive(Clone, Copy)]
 pub struct Keys {
     pub first: Lmk,
     pub second: Lmk,
@@ -18,7 +20,7 @@ pub struct Keys {
     pub place: usize,
 }
 
-#[derive(Drop)]
+#[derive(Clone, Copy)]
 pub enum KeysRead {
     Got(Keys, Cursor),
     Bad(Fault),

@@ -1,4 +1,6 @@
 // The version and the length of a key block.
+#![tactic(auto)]
+
 ghost use Rattle.std.specs.Prelude.{◌≡◌, ◌+◌, ◌≤◌, length, drop};
 ghost use Rattle.fields.specs.Answers.{value_from};
 ghost use Rattle.keylengths.specs.KeyLengths.{said_length, block_length};

@@ -1,4 +1,6 @@
 // Key types and keys: which letters a key field admits and what a key block must permit are parameters.
+#![tactic(auto)]
+
 ghost use Rattle.std.specs.Prelude.{◌≡◌, ◌&&◌, drop};
 ghost use Rattle.alphabet.specs.Alphabet.{admits};
 ghost use Rattle.alphabet.specs.declared.Class.TheVariants.{CapitalHex};
@@ -21,7 +23,7 @@ const TYPE_FFF: [u8; 3] = *b"FFF";
 
 // The keys that a field admits: S and a key block, 32 hex characters without a letter, U and 32, T and 48. The block
 // comes first: so no four bytes in a row are alike in a `Typed`, and the compiler keeps the letters in a register.
-#[derive(Drop)]
+#[derive(Clone, Copy)]
 pub struct Letters {
     pub block: bool,
     pub bare: bool,
@@ -63,7 +65,7 @@ impl Letters {
 }
 
 // The letters that a key type wants and the cursor behind it, or why there is none.
-#[derive(Drop)]
+#[derive(Clone, Copy)]
 pub enum Typed {
     Got(Letters, Cursor),
     Bad(Refusal),

@@ -1,4 +1,6 @@
 // The key schedule KS of FIPS 46-3: the sixteen blocks of key bits of a key.
+#![tactic(auto)]
+
 ghost use Rattle.std.specs.Prelude.{◌≡◌, ◌^◌, ◌<◌, ◌≤◌, get_or};
 ghost use Rattle.bits.specs.Select.{select};
 ghost use Rattle.fips46.specs.Fips46.{PC2, shifts, rotated, KS};

@@ -1,4 +1,6 @@
 // The product above the core that has the keys itself: it answers a whole command, and knows the core by its three calls alone.
+#![tactic(auto)]
+
 ghost use Rattle.std.specs.Prelude.{◌≡◌, ◌≤◌, length, take};
 ghost use Rattle.numbers.specs.Promise.{Does};
 ghost use Rattle.fields.specs.Fields.{shown};

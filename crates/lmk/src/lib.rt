@@ -1,4 +1,6 @@
 // LMK ids: the one that a key or its own field names, and whether two agree.
+#![tactic(auto)]
+
 ghost use Rattle.std.specs.Prelude.{◌≡◌, drop};
 ghost use Rattle.lmk.specs.Lmk.{lmk_field, agree, present};
 ghost use Rattle.lmk.specs.Answers.{keyed_from, refusal_in};
@@ -7,14 +9,14 @@ use fields::{Cursor, Mark, Value};
 use numbers::Refusal;
 
 // The LMK id that a field names, where it names one.
-#[derive(Drop)]
+#[derive(Clone, Copy)]
 pub enum Lmk {
     Absent,
     Id(usize),
 }
 
 // The LMK id of a key or of its own field, and the cursor behind it, or why there is none.
-#[derive(Drop)]
+#[derive(Clone, Copy)]
 pub enum Keyed {
     Got(Lmk, Cursor),
     Bad(Refusal),

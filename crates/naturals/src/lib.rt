@@ -1,4 +1,6 @@
 // The natural PIN, through the decimalisation table.
+#![tactic(auto)]
+
 ghost use Rattle.std.specs.Prelude.{◌≡◌, map, ◌≤◌};
 ghost use lib.ListN.{length};
 ghost use Rattle.nibbles.specs.Nibbles.{row};

@@ -1,4 +1,6 @@
 // Nibbles by shift and mask, and rows of nibbles held in words: the first nibble is the lowest.
+#![tactic(auto)]
+
 ghost use Rattle.std.specs.Prelude.{◌≡◌, ◌++◌, ◌+◌, ◌-◌, ◌*◌, ◌^◌, ◌<◌, ◌≤◌, length, get_or, drop};
 ghost use Rattle.std.proofs.Math.Seq.{slice};
 ghost use Rattle.nibbles.specs.Nibbles.{nibs, packs, word, row, within, leading};

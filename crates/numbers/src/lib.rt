@@ -1,9 +1,11 @@
 // The numbers that the host and the server meet.
+#![tactic(auto)]
+
 ghost use Rattle.std.specs.Prelude.{◌≡◌};
 ghost use Rattle.numbers.specs.Numbers.{number_of};
 
 // Each refusal, and the verdict 01, by what it means and the paper's number.
-#[derive(Drop)]
+#[derive(Clone, Copy)]
 pub enum Refusal {
     Unverified01,
     WeakList03,
@@ -26,7 +28,7 @@ pub enum Refusal {
 
 // What every call answers: the number, and how many bytes, digits or differences it wrote.
 #[repr(C)]
-#[derive(Drop)]
+#[derive(Clone, Copy)]
 pub struct Reply {
     pub number: u32,
     pub written: u32,

@@ -1,4 +1,6 @@
 // The offset of a command that presents one: its field.
+#![tactic(auto)]
+
 ghost use Rattle.std.specs.Prelude.{◌≡◌, drop};
 ghost use Rattle.fields.specs.Answers.{value_from};
 ghost use Rattle.offsetfield.specs.OffsetField.{offset_field};

@@ -1,4 +1,6 @@
 // The IBM 3624 calls over a block or over digits: offset and differences.
+#![tactic(auto)]
+
 ghost use Rattle.std.specs.Prelude.{◌≡◌, map, ◌^◌, ◌<◌, length};
 ghost use Rattle.nibbles.specs.Nibbles.{every};
 ghost use Rattle.alphabet.specs.Alphabet.{value_of};
@@ -17,7 +19,7 @@ use pins::{Count, Pin, Reading, Row};
 use settings::Settings;
 
 // The rows that a call was given.
-#[derive(Drop)]
+#[derive(Clone, Copy)]
 pub struct Rows {
     pub block: u64,
     pub account: u64,
@@ -25,14 +27,14 @@ pub struct Rows {
 }
 
 // Those rows, or why there are none.
-#[derive(Drop)]
+#[derive(Clone, Copy)]
 pub enum Given {
     Of(Rows),
     Bad(Refusal),
 }
 
 // A PIN and its natural PIN, of one length.
-#[derive(Drop)]
+#[derive(Clone, Copy)]
 pub struct Compared {
     pub length: usize,
     pub pin: u64,
@@ -40,7 +42,7 @@ pub struct Compared {
 }
 
 // A PIN and its natural PIN, or why there are none.
-#[derive(Drop)]
+#[derive(Clone, Copy)]
 pub enum Comparison {
     Of(Compared),
     Bad(Refusal),

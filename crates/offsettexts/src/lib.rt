@@ -1,4 +1,6 @@
 // An offset as characters: written, and presented.
+#![tactic(auto)]
+
 ghost use Rattle.std.specs.Prelude.{◌≡◌, ◌++◌, ◌≤◌, length, drop};
 ghost use Rattle.nibbles.specs.Nibbles.{row, within, every};
 ghost use Rattle.pins.specs.Answers.{reading_of};

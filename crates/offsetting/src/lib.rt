@@ -1,4 +1,6 @@
 // A stage of commands: check length, account, decimalisation table and validation data.
+#![tactic(auto)]
+
 ghost use Rattle.std.specs.Prelude.{◌≡◌, ◌≤◌};
 ghost use Rattle.offsetting.specs.Offsetting.{offsetting};
 ghost use Rattle.offsetting.specs.Answers.{offsetting_read, offsetting_fault};
@@ -10,7 +12,7 @@ use validation::Shape;
 use validationfield::ShapeRead;
 
 // The check length, and where account, table and validation data stand; the validation data have a shape.
-#[derive(Drop)]
+#[derive(Clone, Copy)]
 pub struct Offsetting {
     pub check: usize,
     pub account: usize,
@@ -19,7 +21,7 @@ pub struct Offsetting {
     pub shape: Shape,
 }
 
-#[derive(Drop)]
+#[derive(Clone, Copy)]
 pub enum OffsettingRead {
     Got(Offsetting, Cursor),
     Bad(Fault),

@@ -1,4 +1,6 @@
 // PIN and natural PIN of a command, from the places of its fields: what the key box is asked for, and what its answers come to.
+#![tactic(auto)]
+
 ghost use Rattle.std.specs.Prelude.{◌≡◌, ◌+◌, ◌≤◌, length};
 ghost use Rattle.nibbles.specs.Nibbles.{word, nibs};
 ghost use Rattle.answers.specs.Answers.{block_of};

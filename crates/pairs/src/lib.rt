@@ -1,4 +1,6 @@
 // The pair of formats that a translation goes between, judged.
+#![tactic(auto)]
+
 ghost use Rattle.std.specs.Prelude.{◌≡◌};
 ghost use Rattle.pairs.specs.Pairs.{pair_of};
 ghost use Rattle.pairs.specs.Answers.{pair_from, refusal_in};
@@ -8,7 +10,7 @@ use formats::Format;
 use numbers::Refusal;
 
 // The format that is read and the one that is written, or why there is no such pair.
-#[derive(Drop)]
+#[derive(Clone, Copy)]
 pub enum Pair {
     Of(Format, Format),
     Bad(Refusal),

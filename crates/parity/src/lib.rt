@@ -1,4 +1,6 @@
 // Odd parity of a key.
+#![tactic(auto)]
+
 ghost use Rattle.std.specs.Prelude.{◌≡◌};
 ghost use Rattle.parity.specs.Parity.{is_odd, odd_parity, folded};
 

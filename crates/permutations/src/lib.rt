@@ -1,4 +1,6 @@
 // The permutations of whole words by exchanges of bits: IP, its inverse, and permuted choice 1.
+#![tactic(auto)]
+
 ghost use Rattle.std.specs.Prelude.{◌≡◌};
 ghost use Rattle.bits.specs.Select.{select};
 ghost use Rattle.fips46.specs.Fips46.{IP, IP⁻¹, PC1};

@@ -1,4 +1,6 @@
 // PINs, accounts and blocks as values: rows of nibbles in words. Each is judged by one routine.
+#![tactic(auto)]
+
 ghost use Rattle.std.specs.Prelude.{◌≡◌, [], ◌^◌, ◌<◌, ◌≤◌, length};
 ghost use Rattle.nibbles.specs.Nibbles.{word, row};
 ghost use Rattle.numbers.specs.Promise.{Does, quietly};
@@ -9,35 +11,35 @@ use alphabet::Class;
 use numbers::{Refusal, Reply};
 
 // A PIN as a value: its digits are a row in a word, the first lowest.
-#[derive(Drop)]
+#[derive(Clone, Copy)]
 pub struct Pin {
     pub length: usize,
     pub digits: u64,
 }
 
 // How many digits there are, or why that is no answer.
-#[derive(Drop)]
+#[derive(Clone, Copy)]
 pub enum Count {
     Of(usize),
     Bad(Refusal),
 }
 
 // A PIN that was read from a block or handed in, or why there is none.
-#[derive(Drop)]
+#[derive(Clone, Copy)]
 pub enum Reading {
     Got(Pin),
     Bad(Refusal),
 }
 
 // A row of nibbles in a word, or why there is none.
-#[derive(Drop)]
+#[derive(Clone, Copy)]
 pub enum Row {
     Held(u64),
     Refused(Refusal),
 }
 
 // A verdict 00, or why there is none: 01 too.
-#[derive(Drop)]
+#[derive(Clone, Copy)]
 pub enum Verdict {
     Verified,
     Refused(Refusal),

@@ -1,4 +1,6 @@
 // The calls of the ABA PVV: the input that is enciphered, the PVV of the enciphered input, and the verdict on a PVV that is presented.
+#![tactic(auto)]
+
 ghost use Rattle.std.specs.Prelude.{◌≡◌, [], ◌^◌, ◌<◌, length};
 ghost use Rattle.nibbles.specs.Nibbles.{row};
 ghost use Rattle.numbers.specs.Promise.{Does, quietly};
@@ -13,7 +15,7 @@ use numbers::{Refusal, Reply};
 use pins::{Reading, Row, Verdict};
 
 // The rows that a call was given, and its key index.
-#[derive(Drop)]
+#[derive(Clone, Copy)]
 pub struct Rows {
     pub block: u64,
     pub account: u64,
@@ -21,7 +23,7 @@ pub struct Rows {
 }
 
 // Those, or why there are none.
-#[derive(Drop)]
+#[derive(Clone, Copy)]
 pub enum Given {
     Of(Rows),
     Bad(Refusal),

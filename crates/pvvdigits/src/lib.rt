@@ -1,4 +1,6 @@
 // The PVV that an enciphered input makes: its four digits, and the verdict on digits that are presented.
+#![tactic(auto)]
+
 ghost use Rattle.std.specs.Prelude.{◌≡◌, [], ◌∷◌, ◌++◌, map, ◌-◌, ◌^◌, ◌<◌, ◌≤◌, length, take};
 ghost use Rattle.nibbles.specs.Nibbles.{word, row, within, same};
 ghost use Rattle.pins.specs.Pins.{verdict};

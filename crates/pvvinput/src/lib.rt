@@ -1,4 +1,6 @@
 // The PVV input as a row: the account's last eleven digits, the key index and the PIN's first four.
+#![tactic(auto)]
+
 ghost use Rattle.std.specs.Prelude.{◌≡◌, ◌≤◌, take, leb};
 ghost use Rattle.nibbles.specs.Nibbles.{word, row};
 ghost use Rattle.pvvinput.specs.PvvInput.{input_row};

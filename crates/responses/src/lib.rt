@@ -1,4 +1,6 @@
 // What the two calls of a command come to, and how it is written: one writer for any payload, trailer and refusal.
+#![tactic(auto)]
+
 ghost use Rattle.std.specs.Prelude.{◌≡◌, ◌++◌, ◌≤◌, length, drop};
 ghost use Rattle.numbers.specs.Promise.{Does, quietly};
 ghost use Rattle.numbers.specs.Numbers.{number_of};
@@ -11,28 +13,28 @@ use numbers::{Refusal, Reply};
 use pins::{Pin, Row};
 
 // What a command brings behind 00; an offset's digits are held as a PIN's are.
-#[derive(Drop)]
+#[derive(Clone, Copy)]
 pub enum Payload {
     Offset(Pin),
     Nothing,
 }
 
 // What the asking call came to: the block to be enciphered, as a row in a word. So with the PIN block's call, and the PIN block.
-#[derive(Drop)]
+#[derive(Clone, Copy)]
 pub enum Asked {
     Block(u64),
     Bad(Fault),
 }
 
 // What the answering call came to: the payload, and the place of the trailer's mark.
-#[derive(Drop)]
+#[derive(Clone, Copy)]
 pub enum Answered {
     With(Payload, usize),
     Bad(Fault),
 }
 
 // What a call of a command answers: the reply, and what the server is shown of a fault.
-#[derive(Drop)]
+#[derive(Clone, Copy)]
 pub struct Told {
     pub reply: Reply,
     pub pointer: Pointer,

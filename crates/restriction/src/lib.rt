@@ -1,4 +1,6 @@
 // Which pairs of formats a translation may go between, restricted and not.
+#![tactic(auto)]
+
 ghost use Rattle.std.specs.Prelude.{◌≡◌};
 ghost use Rattle.restriction.specs.Restriction.{is05, restricted_pair, permitted};
 

@@ -1,4 +1,6 @@
 // The boxes S1 to S8 joined with P: for each box the 64 words that P makes of its four bits, and nothing else.
+#![tactic(auto)]
+
 ghost use Rattle.std.specs.Prelude.{◌≡◌, ◌<◌, ◌≤◌};
 ghost use Rattle.fips46.specs.Rows.{InRow};
 ghost use Rattle.sboxes.specs.Permuted.{permuted, permuted_all};

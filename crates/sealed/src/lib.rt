@@ -1,4 +1,6 @@
 // A stage of commands: PIN block and format.
+#![tactic(auto)]
+
 ghost use Rattle.std.specs.Prelude.{◌≡◌, ◌≤◌};
 ghost use Rattle.sealed.specs.Sealed.{sealed};
 ghost use Rattle.sealed.specs.Answers.{sealed_read, sealed_fault};
@@ -10,13 +12,13 @@ use formats::Format;
 use numbers::Refusal;
 
 // Where the PIN block stands, and its format.
-#[derive(Drop)]
+#[derive(Clone, Copy)]
 pub struct Sealed {
     pub block: usize,
     pub format: Format,
 }
 
-#[derive(Drop)]
+#[derive(Clone, Copy)]
 pub enum SealedRead {
     Got(Sealed, Cursor),
     Bad(Fault),

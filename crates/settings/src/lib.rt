@@ -1,8 +1,10 @@
 // The settings of the box, by value.
+#![tactic(auto)]
+
 ghost use Rattle.std.specs.Prelude.{◌≡◌};
 ghost use Rattle.settings.specs.Settings.{usually, headed, restricted_to, variably};
 
-#[derive(Drop)]
+#[derive(Clone, Copy)]
 pub struct Settings {
     pub header: usize,
     pub restricted: bool,

@@ -1,4 +1,6 @@
 // Digits as characters: the values of a run of characters as a row of nibbles in a word, and a row written as characters.
+#![tactic(auto)]
+
 ghost use Rattle.std.specs.Prelude.{◌≡◌, ◌++◌, map, true, ◌≤◌, length, drop};
 ghost use Rattle.nibbles.specs.Nibbles.{word, row, leading};
 ghost use Rattle.alphabet.specs.Alphabet.{admits, all_of, value_of, characters};

@@ -1,5 +1,7 @@
 // Triple DES of a block, by the blocks of key bits of three keys. IP and its inverse, which would fall away between the three, are made
 // once.
+#![tactic(auto)]
+
 ghost use Rattle.std.specs.Prelude.{◌≡◌, reverse};
 ghost use Rattle.fips46.specs.Fips46.{computed};
 ghost use Rattle.sboxes.specs.Permuted.{permuted_all};

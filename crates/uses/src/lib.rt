@@ -1,4 +1,6 @@
 // What a key block must permit: algorithm T, and a usage and a mode of what the key is for.
+#![tactic(auto)]
+
 ghost use Rattle.std.specs.Prelude.{◌≡◌, [], ◌∷◌, ◌+◌, ◌≤◌, length, drop};
 ghost use Rattle.uses.specs.Uses.{usages_in, begins_one, modes_in, is_one, permits};
 
@@ -11,7 +13,7 @@ const USAGE_72: [u8; 2] = *b"72";
 const USAGE_V1: [u8; 2] = *b"V1";
 
 // The usages that a key may have.
-#[derive(Drop)]
+#[derive(Clone, Copy)]
 pub enum Usages {
     P0Or71Or72,
     P0Or71,
@@ -20,7 +22,7 @@ pub enum Usages {
 }
 
 // The modes that a key may have.
-#[derive(Drop)]
+#[derive(Clone, Copy)]
 pub enum Modes {
     BOrDOrN,
     COrGOrN,
@@ -28,7 +30,7 @@ pub enum Modes {
 }
 
 // What a key is for, as what its key block may say.
-#[derive(Drop)]
+#[derive(Clone, Copy)]
 pub struct Use {
     pub usages: Usages,
     pub modes: Modes,

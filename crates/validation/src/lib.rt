@@ -1,4 +1,6 @@
 // Validation data, and the block that the key box enciphers to make a natural PIN.
+#![tactic(auto)]
+
 ghost use Rattle.std.specs.Prelude.{◌≡◌, cond, ◌<◌, length};
 ghost use Rattle.nibbles.specs.Nibbles.{word, row};
 ghost use Rattle.numbers.specs.Promise.{Does, quietly};
@@ -11,7 +13,7 @@ use numbers::{Refusal, Reply};
 use pins::Row;
 
 // What validation data are: characters with an N, and the N's place among them, or P and a whole row.
-#[derive(Drop)]
+#[derive(Clone, Copy)]
 pub enum Shape {
     Template(usize),
     Whole,

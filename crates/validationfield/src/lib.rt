@@ -1,4 +1,6 @@
 // The validation data of a command: their field.
+#![tactic(auto)]
+
 ghost use Rattle.std.specs.Prelude.{◌≡◌, drop};
 ghost use Rattle.validation.specs.Validation.{width_of};
 ghost use Rattle.validationfield.specs.ValidationField.{validation_field};
@@ -9,7 +11,7 @@ use numbers::Refusal;
 use validation::Shape;
 
 // The shape of the validation data and the cursor behind them, or why there are none.
-#[derive(Drop)]
+#[derive(Clone, Copy)]
 pub enum ShapeRead {
     Got(Shape, Cursor),
     Bad(Refusal),

@@ -1,4 +1,6 @@
 // The DA and EA commands: their asking call, their PIN block's and their answering call, over the PIN key's use.
+#![tactic(auto)]
+
 ghost use Rattle.std.specs.Prelude.{◌≡◌};
 ghost use Rattle.responses.specs.Answers.{asked_of, answered_of};
 ghost use Rattle.verify.specs.Verify.{verify_ask, verify_extract, verify_answer};

@@ -1,4 +1,6 @@
 // The fields of DA and EA, which verify a PIN: their stages joined. They differ in the PIN key's use.
+#![tactic(auto)]
+
 ghost use Rattle.std.specs.Prelude.{◌≡◌};
 ghost use Rattle.keyfields.specs.Answers.{keys_read};
 ghost use Rattle.verifyfields.specs.VerifyFields.{front, verify_fields};
@@ -19,7 +21,7 @@ const MAXIMUM: usize = 12;
 const RESTRICTED: bool = false;
 
 // The fields of a DA or an EA: places, and the few values that its finish needs. The offset has so many digits at its place.
-#[derive(Drop)]
+#[derive(Clone, Copy)]
 pub struct Verification {
     pub sealed: Sealed,
     pub offsetting: Offsetting,
@@ -28,7 +30,7 @@ pub struct Verification {
     pub trailer: usize,
 }
 
-#[derive(Drop)]
+#[derive(Clone, Copy)]
 pub enum VerificationRead {
     Got(Verification),
     Bad(Fault),

@@ -1,4 +1,6 @@
 // The finish of DA and EA: the verdict on the offset that is presented.
+#![tactic(auto)]
+
 ghost use Rattle.std.specs.Prelude.{◌≡◌};
 ghost use Rattle.pins.specs.Answers.{pin_of, verdict_of};
 ghost use Rattle.pairing.specs.Answers.{box_rows};

@@ -1,11 +1,13 @@
 // The weak PINs of a command: whether a PIN is one of them.
+#![tactic(auto)]
+
 ghost use Rattle.std.specs.Prelude.{◌≡◌, drop};
 ghost use Rattle.nibbles.specs.Nibbles.{row};
 ghost use Rattle.weak.specs.Weak.{is_on, weak_pins};
 ghost use Rattle.weak.specs.Answers.{Lies, lists};
 
 // How many weak PINs there are, the length of each and where their list begins.
-#[derive(Drop)]
+#[derive(Clone, Copy)]
 pub struct Weak {
     pub count: usize,
     pub length: usize,

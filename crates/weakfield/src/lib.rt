@@ -1,4 +1,6 @@
 // The field of the weak PINs.
+#![tactic(auto)]
+
 ghost use Rattle.std.specs.Prelude.{◌≡◌, ◌≤◌, drop};
 ghost use Rattle.weakfield.specs.WeakField.{none_at, listed, weak_field};
 ghost use Rattle.weakfield.specs.Answers.{weak_from, refusal_in};
@@ -9,7 +11,7 @@ use numbers::Refusal;
 use weak::Weak;
 
 // The weak list and the cursor behind it, or why there is none.
-#[derive(Drop)]
+#[derive(Clone, Copy)]
 pub enum WeakRead {
     Got(Weak, Cursor),
     Bad(Refusal),

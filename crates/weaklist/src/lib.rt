@@ -1,4 +1,6 @@
 // A stage of commands: the weak list.
+#![tactic(auto)]
+
 ghost use Rattle.std.specs.Prelude.{◌≡◌};
 ghost use Rattle.weaklist.specs.WeakList.{weak};
 ghost use Rattle.weaklist.specs.Answers.{weak_stage, weak_fault};
@@ -7,7 +9,7 @@ use fields::{Cursor, Fault};
 use weak::Weak;
 use weakfield::WeakRead;
 
-#[derive(Drop)]
+#[derive(Clone, Copy)]
 pub enum WeakStage {
     Got(Weak, Cursor),
     Bad(Fault),

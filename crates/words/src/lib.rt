@@ -1,4 +1,6 @@
 // A block of eight bytes as a word of 64 bits, and back: the first byte is the highest.
+#![tactic(auto)]
+
 ghost use Rattle.std.specs.Prelude.{◌≡◌, ◌++◌, ◌-◌, ◌*◌, ◌/◌, ◌%◌, ◌^◌, ◌<◌, ◌≤◌, length, take, drop};
 ghost use Rattle.words.specs.Words.{spelled, in_bytes};
 
