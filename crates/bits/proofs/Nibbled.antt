@@ -30,10 +30,10 @@ pub entry_from : (g : ℕ → ℕ → ℕ) (n w i v : ℕ) → i < n → v < w �
     → get_or (map (λ k. g (k / w) (k % w)) (from 0 (n * w))) (i * w + v) 0 ≡ g i v
 entry_from g n w i v hi hv h =
     get_or_from (λ k. g (k / w) (k % w)) 0 (n * w) (i * w + v) h
-    ∙ ap (λ (x : ℕ). g (x / w) (x % w)) zero-out ∙ ap₂ g (digits_div i hv) (digits_mod i hv)
+    ∙ ap (λ (x : ℕ). g (x / w) (x % w)) zero_out ∙ ap₂ g (digits_div i hv) (digits_mod i hv)
   where
-    zero-out : 0 + (i * w + v) ≡ i * w + v
-    zero-out = omega arith
+    zero_out : 0 + (i * w + v) ≡ i * w + v
+    zero_out = omega arith
 
 -- ---- the table
 

@@ -67,17 +67,17 @@ module _ (settings : Settings) (g h : Bool) (s : List ℕ) (at : ℕ) (block enc
 
   module _ (p : Bk) (got : fields.Got p ≡ bk_read (bk_fields settings.restricted s at)) where
     -- the key box's answers are
-    pub answer-unboxed : (f : Fault) → box_answer.Bad f ≡ box_read (boxed (length s) g h block enciphered) → bk_answer settings g h s at block enciphered ≡ refused f
+    pub answer_unboxed : (f : Fault) → box_answer.Bad f ≡ box_read (boxed (length s) g h block enciphered) → bk_answer settings g h s at block enciphered ≡ refused f
     unfolding bk_answer
-    answer-unboxed f e = rw ((fields_found (bk_fields settings.restricted s at) p got).1, box_bad (boxed (length s) g h block enciphered) f e)
+    answer_unboxed f e = rw ((fields_found (bk_fields settings.restricted s at) p got).1, box_bad (boxed (length s) g h block enciphered) f e)
 
     module _ (b : Boxed) (small : Below 256 block) (little : Below 256 enciphered) (box : box_answer.Got b ≡ box_read (boxed (length s) g h block enciphered)) where
       -- there is no offset
-      pub answer-unfinished :
+      pub answer_unfinished :
           (q : Refusal) → reading.Bad q ≡ reading_of (bk_finish settings.variable s p (box_rows b))
           → bk_answer settings g h s at block enciphered ≡ refused (record { refusal = q; field = 0; place = 0 })
       unfolding bk_answer
-      answer-unfinished q e =
+      answer_unfinished q e =
           rw (
             (fields_found (bk_fields settings.restricted s at) p got).1,
             box_found (length s) g h block enciphered small little b box,
@@ -85,11 +85,11 @@ module _ (settings : Settings) (g h : Bool) (s : List ℕ) (at : ℕ) (block enc
           )
 
       -- there is one
-      pub answer-made :
+      pub answer_made :
           (ds : Pin) → reading.Got ds ≡ reading_of (bk_finish settings.variable s p (box_rows b))
           → answered.With (Offset ds) p.trailer ≡ answered_of (bk_answer settings g h s at block enciphered)
       unfolding bk_answer
-      answer-made ds e =
+      answer_made ds e =
           let o = reading_got (bk_finish settings.variable s p (box_rows b)) ds e in
           rw ((fields_found (bk_fields settings.restricted s at) p got).1, box_found (length s) g h block enciphered small little b box, o.1)
           (ap (λ (x : Pin). answered.With (Offset x) p.trailer) o.2)

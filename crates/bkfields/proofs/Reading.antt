@@ -64,9 +64,9 @@ module _ (restricted : Bool) (s : List ℕ) (at : ℕ) where
 
     module _ (block : Sealed) (c₆ : Cursor) (e₄ : blocked.Got block c₆ ≡ sealed_read (sealed 4 restricted s c₄.at)) where
       -- what the offset is made with is
-      pub no-data : (f : Fault) → data-read.Bad f ≡ offsetting_read (offsetting 6 s c₆.at) → bk_fields restricted s at ≡ faulty f
+      pub no_data : (f : Fault) → data-read.Bad f ≡ offsetting_read (offsetting 6 s c₆.at) → bk_fields restricted s at ≡ faulty f
       unfolding bk_fields
-      no-data f e =
+      no_data f e =
           rw (
             keys_found (keys 1 pin_key pvk s at) ks c₄ e₁,
             sealed_found (sealed 4 restricted s c₄.at) block c₆ e₄,
@@ -75,9 +75,9 @@ module _ (restricted : Bool) (s : List ℕ) (at : ℕ) where
 
       module _ (inputs : Offsetting) (c₁₀ : Cursor) (e₆ : data-read.Got inputs c₁₀ ≡ offsetting_read (offsetting 6 s c₆.at)) where
         -- the weak list is
-        pub no-list : (f : Fault) → listed.Bad f ≡ weak_stage (weak 10 weak_mark s c₁₀.at) → bk_fields restricted s at ≡ faulty f
+        pub no_list : (f : Fault) → listed.Bad f ≡ weak_stage (weak 10 weak_mark s c₁₀.at) → bk_fields restricted s at ≡ faulty f
         unfolding bk_fields
-        no-list f e =
+        no_list f e =
             rw (
               keys_found (keys 1 pin_key pvk s at) ks c₄ e₁,
               sealed_found (sealed 4 restricted s c₄.at) block c₆ e₄,

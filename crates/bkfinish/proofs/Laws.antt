@@ -24,7 +24,7 @@ use Rattle.keybox.specs.declared.Boxed.{Boxed}
 use Rattle.weak.specs.Weak.{is_on, weak_pins}
 use Rattle.pairing.specs.Pairing.{pair_at}
 use Rattle.pairing.specs.Answers.{box_rows}
-use Rattle.pairing.proofs.Laws.{pair-compared}
+use Rattle.pairing.proofs.Laws.{pair_compared}
 use Rattle.bkfinish.specs.BkFinish.{bk_finish}
 use Rattle.bkfields.specs.Answers.{Placed}
 use Rattle.bkfields.specs.declared.Bk.{Bk}
@@ -55,30 +55,30 @@ module _ (variable : Bool) (s : List ℕ) (p : Bk) (boxed : Boxed) (placed : Pla
 
   module _ (c : Compared) (got : comparison.Of c ≡ comparison_of found) where
     -- the PIN and its natural PIN may be compared
-    pub compared-fit : Fit c
-    compared-fit = (pair-compared s p.offsetting placed.offsetting p.sealed boxed c got).0
+    pub compared_fit : Fit c
+    compared_fit = (pair_compared s p.offsetting placed.offsetting p.sealed boxed c got).0
 
-    pair-meant : found ≡ done (pair_in c)
-    pair-meant = (pair-compared s p.offsetting placed.offsetting p.sealed boxed c got).1
+    pair_meant : found ≡ done (pair_in c)
+    pair_meant = (pair_compared s p.offsetting placed.offsetting p.sealed boxed c got).1
 
     -- the check length is longer than the PIN
-    pub finish-long : (q : Refusal) → reading.Bad q ≡ reading_of (offset_for variable p.offsetting.check (pair_in c)) → finished ≡ refused Check81
+    pub finish_long : (q : Refusal) → reading.Bad q ≡ reading_of (offset_for variable p.offsetting.check (pair_in c)) → finished ≡ refused Check81
     unfolding bk_finish
-    finish-long q e =
+    finish_long q e =
         let o = offset_for variable p.offsetting.check (pair_in c) in
-        rw (pair-meant, long_only variable p.offsetting.check (pair_in c) q (reading_bad o q e))
+        rw (pair_meant, long_only variable p.offsetting.check (pair_in c) q (reading_bad o q e))
 
     module _ (offset : Pin) (made : reading.Got offset ≡ reading_of (offset_for variable p.offsetting.check (pair_in c))) where
       -- the PIN is on the weak list
-      pub finish-weak : is_on (row c.length c.pin) (weak_pins p.weak s) ≡ true → finished ≡ refused Weak86
+      pub finish_weak : is_on (row c.length c.pin) (weak_pins p.weak s) ≡ true → finished ≡ refused Weak86
       unfolding bk_finish
-      finish-weak h =
+      finish_weak h =
           let o = reading_got (offset_for variable p.offsetting.check (pair_in c)) offset made in
-          rw (pair-meant, o.1, h)
+          rw (pair_meant, o.1, h)
 
       -- it is not, and the offset stands
-      pub finish-made : is_on (row c.length c.pin) (weak_pins p.weak s) ≡ false → reading.Got offset ≡ reading_of finished
+      pub finish_made : is_on (row c.length c.pin) (weak_pins p.weak s) ≡ false → reading.Got offset ≡ reading_of finished
       unfolding bk_finish
-      finish-made h =
+      finish_made h =
           let o = reading_got (offset_for variable p.offsetting.check (pair_in c)) offset made in
-          rw (pair-meant, o.1, h) (ap reading.Got o.2)
+          rw (pair_meant, o.1, h) (ap reading.Got o.2)

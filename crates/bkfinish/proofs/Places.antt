@@ -50,6 +50,6 @@ finish_within variable s p rows ds inside b c e =
     let n = then_done (pair_at s p.sealed p.offsetting rows) _ ds e in
     let o = then_done (offset_for variable p.offsetting.check n.0) _ ds n.2 in
     let same = (passed Weak86 (not (is_on n.0.0 (weak_pins p.weak s))) o.0 ds o.2).1 in
-    let fit = pairing.pair-within s p.offsetting inside.offsetting p.sealed rows b c n.0 n.1 in
+    let fit = pairing.pair_within s p.offsetting inside.offsetting p.sealed rows b c n.0 n.1 in
     let w = offset_within variable p.offsetting.check n.0 o.0 fit.4 o.1 in
     (subst (λ (os : List ℕ). length os ≤ 12) same (omega (arith, w.0, fit.1)), subst (Below 10) same w.1)

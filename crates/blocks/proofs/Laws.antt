@@ -77,24 +77,24 @@ module _ (f : Format) (w n from : ℕ) (here : from ≡ lead_width (lead_of f)) 
   wrong_digits h =
       rw (← here, run_broken digit (row 16 w) from (from + n) (omega arith) (rw (row_length 16 w) digits_end) h)
 
-  pub wrong-fill :
+  pub wrong_fill :
       from + n ≤ from + length (leading digit (slice from (from + n) (row 16 w)))
       → from + n + length (leading (fits (fill_of f)) (slice (from + n) 16 (row 16 w))) < 16
       → contents f (row 16 w) n ≡ refused Block20
   unfolding contents
-  wrong-fill h k =
+  wrong_fill h k =
       rw (
         ← here,
         run_whole digit (row 16 w) from (from + n) (omega arith) (rw (row_length 16 w) digits_end) h,
         run_broken (fits (fill_of f)) (row 16 w) (from + n) 16 digits_end (rw (row_length 16 w) (lit≤ tt)) k,
       )
 
-  pub right-contents :
+  pub right_contents :
       from + n ≤ from + length (leading digit (slice from (from + n) (row 16 w)))
       → 16 ≤ from + n + length (leading (fits (fill_of f)) (slice (from + n) 16 (row 16 w)))
       → contents f (row 16 w) n ≡ done (slice from (from + n) (row 16 w))
   unfolding contents
-  right-contents h k =
+  right_contents h k =
       rw (
         ← here,
         run_whole digit (row 16 w) from (from + n) (omega arith) (rw (row_length 16 w) digits_end) h,
@@ -132,23 +132,23 @@ filled_each k [] b = tt
 filled_each k (n ∷ ns) b = (filled_below k n b.0, filled_each k ns b.1)
 
 module _ (k : Fill) (fill : ℕ) where
-  abbrev pub filledRow : List ℕ
-  filledRow = map (filled k) (row 16 fill)
+  abbrev pub filled_row : List ℕ
+  filled_row = map (filled k) (row 16 fill)
 
-  pub filled_length : length filledRow ≡ 16
+  pub filled_length : length filled_row ≡ 16
   filled_length = length-map (row 16 fill) (filled k) ∙ row_length 16 fill
 
-  pub filled_row_below : Below 16 filledRow
+  pub filled_row_below : Below 16 filled_row
   filled_row_below = filled_each k (row 16 fill) (row_below 16 fill)
 
-  pub filled_at : (i : ℕ) → i < 16 → filled k (get_or (row 16 fill) i 0) ≡ get_or filledRow i 0
+  pub filled_at : (i : ℕ) → i < 16 → filled k (get_or (row 16 fill) i 0) ≡ get_or filled_row i 0
   filled_at i h = sym (map_at (filled k) (row 16 fill) i 0 0 (rw (row_length 16 fill) h))
 
-  pub filled_none : 0 ≡ word (drop 16 filledRow)
-  filled_none = word_none filledRow ∙ ap (λ (n : ℕ). word (drop n filledRow)) filled_length
+  pub filled_none : 0 ≡ word (drop 16 filled_row)
+  filled_none = word_none filled_row ∙ ap (λ (n : ℕ). word (drop n filled_row)) filled_length
 
   -- the fill from a place on, and no more
-  pub filled_from : (from : ℕ) → drop from filledRow ≡ map (filled k) (drop from (row 16 fill))
+  pub filled_from : (from : ℕ) → drop from filled_row ≡ map (filled k) (drop from (row 16 fill))
   filled_from from = drop_map (filled k) from (row 16 fill)
     where
       drop_map : (g : ℕ → ℕ) (n : ℕ) (xs : List ℕ) → drop n (map g xs) ≡ map g (drop n xs)
@@ -180,45 +180,45 @@ leads_length Bare n = refl
 leads_length (Control c) n = refl
 
 module _ (f : Format) (p : Pin) (proper : Proper p) (fill from : ℕ) (here : from ≡ lead_width (lead_of f) + p.length) where
-  abbrev pub headRow : List ℕ
-  headRow = leads (lead_of f) p.length ++ digits_of p
+  abbrev pub head_row : List ℕ
+  head_row = leads (lead_of f) p.length ++ digits_of p
 
-  abbrev pub tailRow : List ℕ
-  tailRow = map (filled (fill_of f)) (drop from (row 16 fill))
+  abbrev pub tail_row : List ℕ
+  tail_row = map (filled (fill_of f)) (drop from (row 16 fill))
 
   pub from_small : from ≤ 14
   from_small = let s = lead_short (lead_of f) in omega (arith, proper.short)
 
-  pub head_length : length headRow ≡ from
+  pub head_length : length head_row ≡ from
   head_length =
       length-append (leads (lead_of f) p.length) (digits_of p)
       ∙ ap₂ (λ (a b : ℕ). a + b) (leads_length (lead_of f) p.length) (row_length p.length p.digits) ∙ sym here
 
-  pub head_below : Below 16 headRow
+  pub head_below : Below 16 head_row
   head_below = below_append 16 (leads (lead_of f) p.length) (digits_of p) (leads_below f p.length (omega (arith, proper.short))) (row_below p.length p.digits)
 
-  pub tail_length : length tailRow ≡ 16 - from
+  pub tail_length : length tail_row ≡ 16 - from
   tail_length =
       length-map (drop from (row 16 fill)) (filled (fill_of f)) ∙ length-drop from (row 16 fill)
       ∙ ap (λ (n : ℕ). n - from) (row_length 16 fill)
 
-  pub tail_below : Below 16 tailRow
+  pub tail_below : Below 16 tail_row
   tail_below = filled_each (fill_of f) (drop from (row 16 fill)) (below_drop 16 from (row 16 fill) (row_below 16 fill))
 
-  pub head_under : word headRow < 16 ^ from
-  head_under = subst (λ (n : ℕ). word headRow < 16 ^ n) head_length (word_lt headRow head_below)
+  pub head_under : word head_row < 16 ^ from
+  head_under = subst (λ (n : ℕ). word head_row < 16 ^ n) head_length (word_lt head_row head_below)
 
-  pub tail_under : word tailRow < 16 ^ (16 - from)
-  tail_under = subst (λ (n : ℕ). word tailRow < 16 ^ n) tail_length (word_lt tailRow tail_below)
+  pub tail_under : word tail_row < 16 ^ (16 - from)
+  tail_under = subst (λ (n : ℕ). word tail_row < 16 ^ n) tail_length (word_lt tail_row tail_below)
 
-  whole : length (headRow ++ tailRow) ≡ 16
-  whole = length-append headRow tailRow ∙ (let h = head_length in let t = tail_length in let s = from_small in omega arith)
+  whole : length (head_row ++ tail_row) ≡ 16
+  whole = length-append head_row tail_row ∙ (let h = head_length in let t = tail_length in let s = from_small in omega arith)
 
-  pub joined : row 16 (word tailRow * 16 ^ from + word headRow) ≡ clear_row f (digits_of p) (row 16 fill)
+  pub joined : row 16 (word tail_row * 16 ^ from + word head_row) ≡ clear_row f (digits_of p) (row 16 fill)
   joined =
-      ap (row 16) (sym (word_append headRow tailRow ∙ ap (λ (n : ℕ). word tailRow * 16 ^ n + word headRow) head_length))
-      ∙ ap (λ (n : ℕ). row n (word (headRow ++ tailRow))) (sym whole)
-      ∙ row_word (headRow ++ tailRow) (below_append 16 headRow tailRow head_below tail_below)
+      ap (row 16) (sym (word_append head_row tail_row ∙ ap (λ (n : ℕ). word tail_row * 16 ^ n + word head_row) head_length))
+      ∙ ap (λ (n : ℕ). row n (word (head_row ++ tail_row))) (sym whole)
+      ∙ row_word (head_row ++ tail_row) (below_append 16 head_row tail_row head_below tail_below)
       ∙ ap₂ (λ (n k : ℕ). leads (lead_of f) n ++ digits_of p ++ map (filled (fill_of f)) (drop k (row 16 fill)))
       (sym (row_length p.length p.digits))
       (here ∙ ap (λ (n : ℕ). lead_width (lead_of f) + n) (sym (row_length p.length p.digits)))

@@ -41,12 +41,12 @@ further at later s t l e =
 
 module _ {n : ℕ} {F X A S : Type 0} (c : Layout n F X A S) (s t : List ℕ) (at : ℕ) (a b : A) (past past' : ℕ) where
   -- from what the three parts of one command read, and what they read in the other
-  parts-alike :
+  parts_alike :
       (f f' : F) (x x' : X) (at₂ at₂' at₃ at₃' : ℕ)
       → c.front.stage s at ≡ read f at₂ → c.block.stage s at₂ ≡ read x at₃ → (c.tail f x).stage s at₃ ≡ read a past
       → c.front.stage t at ≡ read f' at₂' → c.block.stage t at₂' ≡ read x' at₃' → fields c t at ≡ read b past'
       → Outside n (c.place a) s t → Alike c s t at a b
-  parts-alike f f' x x' at₂ at₂' at₃ at₃' e₁ e₂ e₃ d₁ d₂ e' alike =
+  parts_alike f f' x x' at₂ at₂' at₃ at₃' e₁ e₂ e₃ d₁ d₂ e' alike =
       let over = c.passes.over s at₂ x at₃ e₂ in
       let h = ((c.tail f x).exact s at₃).only a past e₃ in
       let o = h.2 in
@@ -71,4 +71,4 @@ read_alike n F X A S c s t at a b past past' e e' alike =
     let x = onward_read (c.block.stage s f.1) _ a past f.3 in
     let f' = onward_read (c.front.stage t at) _ b past' e' in
     let x' = onward_read (c.block.stage t f'.1) _ b past' f'.3 in
-    parts-alike c s t at a b past past' f.0 f'.0 x.0 x'.0 f.1 f'.1 x.1 x'.1 f.2 x.2 x.3 f'.2 x'.2 e' alike
+    parts_alike c s t at a b past past' f.0 f'.0 x.0 x'.0 f.1 f'.1 x.1 x'.1 f.2 x.2 x.3 f'.2 x'.2 e' alike

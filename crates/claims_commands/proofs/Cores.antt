@@ -196,15 +196,15 @@ module _ (settings : Settings) (g h : Bool) (s block enciphered : List ℕ) wher
   refused_alike Ea at f e = answer_refuses (verify_shape zone settings) (verify_asked (key_for zone)) g h s at block enciphered f e
   refused_alike Other at f e = ap refused (refusal_of e)
 
-  by-frame :
+  by_frame :
       (o : Outcome ℕ) (q : Refusal) → heard (and_then (unpointed o) (λ code. ask_by (frame.code_of (drop code s)) settings s (code + 2))) ≡ refused q
       → (silently (and_then o (λ code. done (responding settings.header s (heard (commanded settings g h s block enciphered code)))))).number ≡ number_of q
-  by-frame (done code) q e =
+  by_frame (done code) q e =
       let f = heard_refused (ask_by (frame.code_of (drop code s)) settings s (code + 2)) q e in
       rw (refused_alike (frame.code_of (drop code s)) (code + 2) f.0 f.1) (ap number_of f.2)
-  by-frame (refused p) q e = ap number_of (refusal_of e)
+  by_frame (refused p) q e = ap number_of (refusal_of e)
 
 pub answer_reads_the_fields : AnswerReadsTheFields
 unfolding asking answered
 answer_reads_the_fields settings g h s block enciphered room room' q k k' e =
-    rw (le-leb 65 room' k') (by-frame settings g h s block enciphered (framed settings.header s) q (rw (le-leb 8 room k) at e))
+    rw (le-leb 65 room' k') (by_frame settings g h s block enciphered (framed settings.header s) q (rw (le-leb 8 room k) at e))

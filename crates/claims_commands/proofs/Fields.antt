@@ -53,11 +53,11 @@ use Rattle.claims_blocks.proofs.Judged.{Only, done_only, refused_only, test_only
 pub listed_passes : (p : ℕ → Bool) (n : ℕ) (ms : List ℕ) → every p ms ≡ true → listed n ms ≡ true → p n ≡ true
 unfolding every
 listed_passes p n [] h e = absurd (false≢true e)
-listed_passes p n (m ∷ ms) h e = by-test (eqb n m) refl e (listed_passes p n ms (and_right (p m) (every p ms) h))
+listed_passes p n (m ∷ ms) h e = by_test (eqb n m) refl e (listed_passes p n ms (and_right (p m) (every p ms) h))
   where
-    by-test : (b : Bool) → eqb n m ≡ b → (b || listed n ms) ≡ true → (listed n ms ≡ true → p n ≡ true) → p n ≡ true
-    by-test true same e rest = ap p (eqb-true n m same) ∙ and_left (p m) (every p ms) h
-    by-test false same e rest = rest e
+    by_test : (b : Bool) → eqb n m ≡ b → (b || listed n ms) ≡ true → (listed n ms ≡ true → p n ≡ true) → p n ≡ true
+    by_test true same e rest = ap p (eqb-true n m same) ∙ and_left (p m) (every p ms) h
+    by_test false same e rest = rest e
 
 -- a refusal whose number stands in a list
 abbrev pub In : List ℕ → Refusal → Type 0
@@ -272,17 +272,17 @@ listing_gives first mark s at = fielded_only OfWeak first at (weak_field mark at
 
 -- what is left over and ids that do not agree are 15
 closed_gives : (ks : Keys) (own : Lmk) (first at : ℕ) (s : List ℕ) (mark past : ℕ) → Only OfFields (outcome (closed ks own first at s mark past))
-closed_gives ks own first at s mark past = by-test (leb (length s) past) (all_agree ks own)
+closed_gives ks own first at s mark past = by_test (leb (length s) past) (all_agree ks own)
   where
     last : (there : Bool) (f g : Fault) → OfFields f.refusal → OfFields g.refusal → OfFields (cond there f g).refusal
     last true f g c d = c
     last false f g c d = d
 
-    by-test : (whole alike : Bool)
+    by_test : (whole alike : Bool)
         → Only OfFields (outcome (cond whole (cond alike (read mark past) (faulty (last_id ks own first at))) (faulty (record { refusal = Field15; field = 0; place = past }))))
-    by-test true true = done_only OfFields mark
-    by-test true false = refused_only OfFields (last_id ks own first at).refusal (last (present own) _ _ refl refl)
-    by-test false alike = refused_only OfFields Field15 refl
+    by_test true true = done_only OfFields mark
+    by_test true false = refused_only OfFields (last_id ks own first at).refusal (last (present own) _ _ refl refl)
+    by_test false alike = refused_only OfFields Field15 refl
 
 pub end_gives : (first : ℕ) (ks : Keys) (s : List ℕ) (at : ℕ) → Only OfFields (outcome (end first ks s at))
 unfolding end

@@ -109,8 +109,8 @@ module _ (w : Verifying) (settings : Settings) where
         (λ v rows. then_only (In verify_numbers) (compared_in s v rows) _ (pair_only (In verify_numbers) refl refl _ _ _) (verdict_only (In verify_numbers) refl refl settings.variable s v))
 
     -- 00 brings nothing but the trailer
-    verify-count : (header : ℕ) (d : Payload × ℕ) → answer_by (code_for w) settings g h s at block enciphered ≡ done d → VerifiedCount header (header + 4 + length (answer_text s d))
-    verify-count header d e =
+    verify_count : (header : ℕ) (d : Payload × ℕ) → answer_by (code_for w) settings g h s at block enciphered ≡ done d → VerifiedCount header (header + 4 + length (answer_text s d))
+    verify_count header d e =
         let long = answer_long (verify_shape w settings) 0 (λ _ _. refl) g h s at block enciphered d e in
         (omega arith, omega (arith, long.1))
 
@@ -175,8 +175,8 @@ module _ (settings : Settings) (g h : Bool) (s block enciphered : List ℕ) wher
   answer_done Bk at header d e =
       let long = answer_long (bk_shape settings) 12 (λ ds f. text_length ds f.0) g h s at block enciphered d e in
       (refl, (omega (arith, long.0), omega (arith, long.1)))
-  answer_done Da at header d e = (refl, verify-count terminal settings g h s at block enciphered header d e)
-  answer_done Ea at header d e = (refl, verify-count zone settings g h s at block enciphered header d e)
+  answer_done Da at header d e = (refl, verify_count terminal settings g h s at block enciphered header d e)
+  answer_done Ea at header d e = (refl, verify_count zone settings g h s at block enciphered header d e)
   answer_done Other at header d e = absurd (let z : ◌≡◌ {A = ℕ} 0 1 = cc in omega arith)
 
   -- so of a command that has a frame: what it is refused for
@@ -240,7 +240,7 @@ pub variable_never_81 : VariableNever81
 unfolding every
 variable_never_81 settings g h s block enciphered room variable coded =
     one_of_three settings g h s block enciphered room (λ said. said.number ≡ 81 → ⊥) (λ e. omega arith) (λ e. omega arith)
-    (λ _. respond-not (heard (commanded settings g h s block enciphered header)) (then_heard Not81 (answer_by (code_in settings s) settings g h s (header + 2) block enciphered) _
+    (λ _. respond_not (heard (commanded settings g h s block enciphered header)) (then_heard Not81 (answer_by (code_in settings s) settings g h s (header + 2) block enciphered) _
     (subst (λ (c : Code). Only Not81 (heard (answer_by c settings g h s (header + 2) block enciphered))) (sym coded) gives) (λ d. done_only Not81 (answer_text s d))))
   where
     header : ℕ
@@ -253,6 +253,6 @@ variable_never_81 settings g h s block enciphered room variable coded =
     gives =
         bk_only Not81 (λ q k. not-true _ (listed_passes (λ m. not (eqb m 81)) (number_of q) others refl k)) settings (λ e. absurd (false≢true (sym e ∙ variable))) g h s (header + 2) block enciphered
 
-    respond-not : (o : Outcome (List ℕ)) → Only Not81 o → (responding header s o).number ≡ 81 → ⊥
-    respond-not (done w) c e = omega arith
-    respond-not (refused q) c e = false≢true (sym (c q refl) ∙ eq-eqb (number_of q) 81 e)
+    respond_not : (o : Outcome (List ℕ)) → Only Not81 o → (responding header s o).number ≡ 81 → ⊥
+    respond_not (done w) c e = omega arith
+    respond_not (refused q) c e = false≢true (sym (c q refl) ∙ eq-eqb (number_of q) 81 e)

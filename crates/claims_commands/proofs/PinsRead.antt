@@ -111,8 +111,8 @@ module _ {command : Code} {settings : Settings} {A B : Type 0} (c : Shape comman
     Found = Finds command c.reader (boxed (length s) g h block enciphered) k.pin_in settings.header room s
 
     -- behind room, frame and code
-    framed-finds : 65 ≤ room → is_framed settings.header s ≡ true → code_in settings s ≡ command → Known (heard (answer_by command settings g h s (settings.header + 2) block enciphered)) → Found
-    framed-finds roomy framed coded e =
+    framed_finds : 65 ≤ room → is_framed settings.header s ≡ true → code_in settings s ≡ command → Known (heard (answer_by command settings g h s (settings.header + 2) block enciphered)) → Found
+    framed_finds roomy framed coded e =
         let at = settings.header + 2 in
         let f = passes_heard (ruled (c.reader s at)) _ (k.fields s at) (rw (c.answers g h s at block enciphered) at e) in
         let b = passes_heard (boxed (length s) g h block enciphered) _ (box_only (Other numbers) (elsewhere Field15 refl) (elsewhere PinKeyParity10 refl) (elsewhere PvkParity11 refl) (length s) g h block enciphered) f.2 in
@@ -124,8 +124,8 @@ module _ {command : Code} {settings : Settings} {A B : Type 0} (c : Shape comman
           paired = n.1;
         }
 
-    read-finds : code_in settings s ≡ command → Read answer → Found
-    read-finds coded e = by_tests (leb 65 room) (is_framed settings.header s) refl refl
+    read_finds : code_in settings s ≡ command → Read answer → Found
+    read_finds coded e = by_tests (leb 65 room) (is_framed settings.header s) refl refl
       where
         by_tests : (roomy framed : Bool) → leb 65 room ≡ roomy → is_framed settings.header s ≡ framed → Found
         by_tests false framed u v = absurd (false≢true (sym (elsewhere Room901 refl) ∙ subst Read (answered_901 settings g h s block enciphered room (leb-false 65 room u)) e))
@@ -133,18 +133,18 @@ module _ {command : Code} {settings : Settings} {A B : Type 0} (c : Shape comman
         by_tests true true u v =
             let x = known settings.header s _ (subst Read (answered_framed settings g h s block enciphered room (leb-true 65 room u) v) e) in
             let y = first_heard (answer_by (code_in settings s) settings g h s (settings.header + 2) block enciphered) (λ answer. done (answer_text s answer)) x in
-            framed-finds (leb-true 65 room u) v coded (subst (λ (z : Code). Known (heard (answer_by z settings g h s (settings.header + 2) block enciphered))) coded y)
+            framed_finds (leb-true 65 room u) v coded (subst (λ (z : Code). Known (heard (answer_by z settings g h s (settings.header + 2) block enciphered))) coded y)
 
-    finds-read : Found → Read answer
-    finds-read r =
+    finds_read : Found → Read answer
+    finds_read r =
         let a = r.reaches.fields in
         let rows = r.reaches.rows in
         let behind : Known (c.finish s a rows) = rw (k.split s a rows, r.paired) (k.behind s a r.found) in
         subst Read (sym (reached c g h room s block enciphered r.reaches)) (said settings.header s (c.finish s a rows) _ behind)
 
     -- a run with its code finds its PIN exactly when its number is one of these
-    pub finds-exactly : code_in settings s ≡ command → Read answer ↔ Found
-    finds-exactly coded = (read-finds coded, finds-read)
+    pub finds_exactly : code_in settings s ≡ command → Read answer ↔ Found
+    finds_exactly coded = (read_finds coded, finds_read)
 
 -- ---- BK
 
@@ -163,7 +163,7 @@ bk_pinned settings = record {
 
 pub reads_exactly : ReadsExactly
 unfolding bk_pinned
-reads_exactly settings g h room s block enciphered coded = finds-exactly (bk_shape settings) (bk_pinned settings) g h room s block enciphered coded
+reads_exactly settings g h room s block enciphered coded = finds_exactly (bk_shape settings) (bk_pinned settings) g h room s block enciphered coded
 
 -- ---- two returns
 

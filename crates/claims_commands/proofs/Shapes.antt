@@ -111,20 +111,20 @@ module _ {command : Code} {settings : Settings} {A B : Type 0} (c : Shape comman
       → (g h : Bool) (s : List ℕ) (at : ℕ) (block enciphered : List ℕ) (f : Fault)
       → ask_by command settings s at ≡ refused f → answer_by command settings g h s at block enciphered ≡ refused f
   answer_refuses asked g h s at block enciphered f e =
-      c.answers g h s at block enciphered ∙ by-fields (c.reader s at) refl (sym (c.asks s at) ∙ e)
+      c.answers g h s at block enciphered ∙ by_fields (c.reader s at) refl (sym (c.asks s at) ∙ e)
     where
-      by-fields : (stage : Stage A) → c.reader s at ≡ stage → and_then (ruled stage) (λ a. unpointed (c.asked s a)) ≡ refused f
+      by_fields : (stage : Stage A) → c.reader s at ≡ stage → and_then (ruled stage) (λ a. unpointed (c.asked s a)) ≡ refused f
           → answering stage (boxed (length s) g h block enciphered) (brings s) c.mark ≡ refused f
-      by-fields (read a past) r e = absurd (let d = asked s at a past r in let x = rw d.1 at e in let z : ◌≡◌ {A = ℕ} 0 1 = cc in omega arith)
-      by-fields (faulty q) r e = let same : q ≡ f = cc in ap refused same
+      by_fields (read a past) r e = absurd (let d = asked s at a past r in let x = rw d.1 at e in let z : ◌≡◌ {A = ℕ} 0 1 = cc in omega arith)
+      by_fields (faulty q) r e = let same : q ≡ f = cc in ap refused same
 
   -- what an answer brings is what some finish does
   brought : (s : List ℕ) (stage : Stage A) (box : Ruling (List ℕ × List ℕ)) (d : Payload × ℕ) → answering stage box (brings s) c.mark ≡ done d → (b : B) × (c.payload b ≡ d.0)
-  brought s (read a past) (done rows) d e = by-finish (c.finish s a rows) e
+  brought s (read a past) (done rows) d e = by_finish (c.finish s a rows) e
     where
-      by-finish : (o : Outcome B) → and_then (unpointed (and_then o (λ b. done (c.payload b)))) (λ p. done (p, c.mark a)) ≡ done d → (b : B) × (c.payload b ≡ d.0)
-      by-finish (done b) e = (b, ap (λ (x : Payload × ℕ). x.0) (value_of_lem e))
-      by-finish (refused q) e = absurd (let z : ◌≡◌ {A = ℕ} 0 1 = cc in omega arith)
+      by_finish : (o : Outcome B) → and_then (unpointed (and_then o (λ b. done (c.payload b)))) (λ p. done (p, c.mark a)) ≡ done d → (b : B) × (c.payload b ≡ d.0)
+      by_finish (done b) e = (b, ap (λ (x : Payload × ℕ). x.0) (value_of_lem e))
+      by_finish (refused q) e = absurd (let z : ◌≡◌ {A = ℕ} 0 1 = cc in omega arith)
   brought s (read a past) (refused f) d e = absurd (let z : ◌≡◌ {A = ℕ} 0 1 = cc in omega arith)
   brought s (faulty f) box d e = absurd (let z : ◌≡◌ {A = ℕ} 0 1 = cc in omega arith)
 
@@ -149,13 +149,13 @@ module _ {command : Code} {settings : Settings} {A B : Type 0} (c : Shape comman
     behind (refused q) mark = refl
 
     -- what a run comes to that gets as far as its block: its finish, and behind 00 what that brings and the trailer
-    pub reached-said : heard (commanded settings g h s block enciphered settings.header)
+    pub reached_said : heard (commanded settings g h s block enciphered settings.header)
         ≡ and_then (c.finish s r.fields r.rows) (λ b. done (payload_text (c.payload b) ++ drop (c.mark r.fields) s))
-    reached-said =
+    reached_said =
         rw (r.coded, c.answers g h s (settings.header + 2) block enciphered, r.read, r.boxed)
         (behind (c.finish s r.fields r.rows) (c.mark r.fields))
 
     -- so what it answers is the response to that
     pub reached : answered settings g h s block enciphered room
         ≡ responding settings.header s (and_then (c.finish s r.fields r.rows) (λ b. done (payload_text (c.payload b) ++ drop (c.mark r.fields) s)))
-    reached = answered_framed settings g h s block enciphered room r.roomy r.framed ∙ ap (responding settings.header s) reached-said
+    reached = answered_framed settings g h s block enciphered room r.roomy r.framed ∙ ap (responding settings.header s) reached_said

@@ -62,24 +62,24 @@ module _ {A : Type 0} (Fine : A → Type 0) (text : A → List ℕ) (once : (a b
   Finely o = (a : A) → o ≡ done a → Fine a
 
   module _ (header : ℕ) (s t tail : List ℕ) (opened : (n : ℕ) → opening header s n ≡ opening header t n) where
-    response-told : (o o' : Outcome A) → Finely o → Finely o' → responding header s (payload tail o) ≡ responding header t (payload tail o') → o ≡ o'
-    response-told (done a) (done b) f f' e =
+    response_told : (o o' : Outcome A) → Finely o → Finely o' → responding header s (payload tail o) ≡ responding header t (payload tail o') → o ≡ o'
+    response_told (done a) (done b) f f' e =
         let bytes : opening header t 0 ++ (text a ++ tail) ≡ opening header t 0 ++ (text b ++ tail) =
         ap (λ (x : List ℕ). x ++ (text a ++ tail)) (sym (opened 0)) ∙ ap (λ (x : Said ℕ). x.written) e in
         let texts = append_cancel_left (opening header t 0) (text a ++ tail) (text b ++ tail) bytes in
         ap done (once a b (f a refl) (f' b refl) (append_cancel_right (text a) (text b) tail texts))
-    response-told (done a) (refused q) f f' e = absurd (never_00 q (ap (λ (x : Said ℕ). x.number) e))
-    response-told (refused p) (done b) f f' e = absurd (never_00 p (sym (ap (λ (x : Said ℕ). x.number) e)))
-    response-told (refused p) (refused q) f f' e = ap refused (number_once p q (ap (λ (x : Said ℕ). x.number) e))
+    response_told (done a) (refused q) f f' e = absurd (never_00 q (ap (λ (x : Said ℕ). x.number) e))
+    response_told (refused p) (done b) f f' e = absurd (never_00 p (sym (ap (λ (x : Said ℕ). x.number) e)))
+    response_told (refused p) (refused q) f f' e = ap refused (number_once p q (ap (λ (x : Said ℕ). x.number) e))
 
-    response-same : (o : Outcome A) → responding header s (payload tail o) ≡ responding header t (payload tail o)
-    response-same (done a) = ap (λ (x : List ℕ). record { number = 0; written = x ++ (text a ++ tail) }) (opened 0)
-    response-same (refused q) = ap (λ (x : List ℕ). record { number = number_of q; written = x }) (opened (number_of q))
+    response_same : (o : Outcome A) → responding header s (payload tail o) ≡ responding header t (payload tail o)
+    response_same (done a) = ap (λ (x : List ℕ). record { number = 0; written = x ++ (text a ++ tail) }) (opened 0)
+    response_same (refused q) = ap (λ (x : List ℕ). record { number = number_of q; written = x }) (opened (number_of q))
 
 pub responses_tell : ResponsesTell
 responses_tell A Fine text once header s t tail opened o o' f f' = (
-  response-told Fine text once header s t tail opened o o' f f',
-  λ e. ap (λ (x : Outcome A). responding header s (and_then x (λ a. done (text a ++ tail)))) e ∙ response-same Fine text once header s t tail opened o',
+  response_told Fine text once header s t tail opened o o' f f',
+  λ e. ap (λ (x : Outcome A). responding header s (and_then x (λ a. done (text a ++ tail)))) e ∙ response_same Fine text once header s t tail opened o',
 )
 
 -- ---- two runs
@@ -102,11 +102,11 @@ module _ {command : Code} {settings : Settings} {A B : Type 0} (c : Shape comman
   module _ (g h g' h' : Bool) (room room' : ℕ) (s t block block' enciphered enciphered' : List ℕ)
       (r : Reached command c.reader (boxed (length s) g h block enciphered) settings.header room s)
       (r' : Reached command c.reader (boxed (length t) g' h' block' enciphered') settings.header room' t) where
-    pub shape-alike : Outside n (l.place r.fields) s t
+    pub shape_alike : Outside n (l.place r.fields) s t
         → ((x : B) → c.finish s r.fields r.rows ≡ done x → Fine x) → ((x : B) → c.finish t r'.fields r'.rows ≡ done x → Fine x)
         → (answered settings g h s block enciphered room ≡ answered settings g' h' t block' enciphered' room')
         ↔ (c.finish s r.fields r.rows ≡ c.finish t r'.fields r'.rows)
-    shape-alike alike fine fine' =
+    shape_alike alike fine fine' =
         let header = settings.header in
         let text : B → List ℕ = λ b. payload_text (c.payload b) in
         let here = reached c g h room s block enciphered r ∙ ap (λ (tail : List ℕ). responding header s (and_then (c.finish s r.fields r.rows) (λ b. done (text b ++ tail)))) (sym (seen r.fields s)) in
@@ -126,5 +126,5 @@ finish_digits settings g h room s block enciphered r ds e =
 pub answer_alike : AnswerAlike
 unfolding bk_fields
 answer_alike settings g h room room' s t block block' enciphered enciphered' r r' alike =
-    shape-alike (bk_shape settings) (bk_layout settings.restricted) (λ s at. refl) (λ p s. refl) (Below 10) text_once g h g h room room' s t block block' enciphered enciphered' r r' alike
+    shape_alike (bk_shape settings) (bk_layout settings.restricted) (λ s at. refl) (λ p s. refl) (Below 10) text_once g h g h room room' s t block block' enciphered enciphered' r r' alike
     (finish_digits settings g h room s block enciphered r) (finish_digits settings g h room' t block' enciphered' r')

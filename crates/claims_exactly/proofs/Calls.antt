@@ -27,7 +27,7 @@ use Rattle.claims_blocks.proofs.Judged.{Only}
 use Rattle.claims_numbers.proofs.Numbers.{never_00}
 use Rattle.claims_commands.specs.Runs.{Reached}
 use Rattle.claims_commands.proofs.Fields.{listed_passes, In, field_numbers}
-use Rattle.claims_commands.proofs.Shapes.{Shape, reached, reached-said}
+use Rattle.claims_commands.proofs.Shapes.{Shape, reached, reached_said}
 use Rattle.claims_commands.proofs.Numbers.{two_digit}
 use Rattle.claims_exactly.specs.Sent.{IsHeader, response}
 use Rattle.claims_exactly.proofs.Sent.{Known, code_bytes, sent_of, Papers, sent_framed, sent_code, sent_read, sent_opening, sent_or_faulty}
@@ -96,7 +96,7 @@ module _ {code : Code} {settings : Settings} {A B : Type 0} {c : Shape code sett
         rows = (nibs block, nibs enciphered);
         boxed = box_eight (length whole) block enciphered b e;
       } in
-      let said = reached-said c true true room whole block enciphered reach in
+      let said = reached_said c true true room whole block enciphered reach in
       let small = subst (Only (λ q. number_of q < 100)) said (λ q. two_digit settings true true whole block enciphered settings.header q) in
       reached c true true room whole block enciphered reach
       ∙ responds settings.header whole header k.known.first (raised k.known.second) (sent_opening k.known settings.header header p h g) _ small
@@ -136,23 +136,23 @@ module _ (settings : Settings) (s : List ℕ) (framed : is_framed settings.heade
     tried = sent_or_faulty k.known settings.header s framed (k.begun (drop settings.header s) coded)
 
     -- bytes with the command's code for which the asking call answers 00 are such a command
-    pub asked-papers : (room : ℕ) → 8 ≤ room → (quietly (asked settings s room)).number ≡ 0 → Papers k.known settings.header s
-    asked-papers room roomy e = by-fields tried
+    pub asked_papers : (room : ℕ) → 8 ≤ room → (quietly (asked settings s room)).number ≡ 0 → Papers k.known settings.header s
+    asked_papers room roomy e = by_fields tried
       where
-        by-fields : Tried → Papers k.known settings.header s
-        by-fields (inl c) = c
-        by-fields (inr (f, n)) =
+        by_fields : Tried → Papers k.known settings.header s
+        by_fields (inl c) = c
+        by_fields (inr (f, n)) =
             let bad : asked settings s room ≡ refused f.refusal = asked_framed settings s room roomy framed ∙ rw (coded, c.asks s at, k.fields s at, n) in
             absurd (never_00 f.refusal (sym (rw bad at e)))
 
     -- and those that are none are refused early
     pub papers_or_early : Papers k.known settings.header s ⊎ Early settings s
     unfolding every
-    papers_or_early = by-fields tried
+    papers_or_early = by_fields tried
       where
-        by-fields : Tried → Papers k.known settings.header s ⊎ Early settings s
-        by-fields (inl c) = inl c
-        by-fields (inr (f, n)) =
+        by_fields : Tried → Papers k.known settings.header s ⊎ Early settings s
+        by_fields (inl c) = inl c
+        by_fields (inr (f, n)) =
             let given = k.gives s at f.refusal (ap outcome n) in
             inr
             (early f (listed_passes (λ m. listed m refusals) (number_of f.refusal) field_numbers refl given)

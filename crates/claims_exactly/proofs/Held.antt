@@ -70,7 +70,7 @@ module _ {B : Type 0} (these : List ℕ) (next : List ℕ × List ℕ → Outcom
 
   pub held_exactly : AreInputs i → length block ≡ 8 → IsBytes block → (listed finished these ≡ true) ↔ Holds b.format (account_digits i) block
   unfolding pin_with_natural
-  held_exactly g l bytes = (λ k. by-reading k reading refl, λ h. let r = holds_read (account_digits i) block row nibbles b.format h in rw r.1 (behind _))
+  held_exactly g l bytes = (λ k. by_reading k reading refl, λ h. let r = holds_read (account_digits i) block row nibbles b.format h in rw r.1 (behind _))
     where
       row : IsRow (account_field (account_digits i))
       row = field_row i.account g.account.0
@@ -78,6 +78,6 @@ module _ {B : Type 0} (these : List ℕ) (next : List ℕ × List ℕ → Outcom
       nibbles : IsRow (nibs block)
       nibbles = nibs_row block l bytes
 
-      by-reading : listed finished these ≡ true → (o : Outcome (List ℕ)) → reading ≡ o → Holds b.format (account_digits i) block
-      by-reading k (done pin) e = read_holds (account_digits i) block row nibbles b.format pin e
-      by-reading k (refused q) e = absurd (not_behind q (read_faults b.format (account_field (account_digits i)) (nibs block) q e) (rw e at k))
+      by_reading : listed finished these ≡ true → (o : Outcome (List ℕ)) → reading ≡ o → Holds b.format (account_digits i) block
+      by_reading k (done pin) e = read_holds (account_digits i) block row nibbles b.format pin e
+      by_reading k (refused q) e = absurd (not_behind q (read_faults b.format (account_field (account_digits i)) (nibs block) q e) (rw e at k))

@@ -46,28 +46,28 @@ use Rattle.claims_exactly.proofs.Held.{numbered, response_number, held_exactly}
 
 asked_only : (settings : Settings) (s : List ℕ) (room : ℕ) → 8 ≤ room → (quietly (asked settings s room)).number ≡ 0 → OneOfThePapers settings s
 unfolding ask_by
-asked_only settings s room roomy e = by-frame (is_framed settings.header s) refl
+asked_only settings s room roomy e = by_frame (is_framed settings.header s) refl
   where
     by_code : (c : Code) → is_framed settings.header s ≡ true → code_of (drop settings.header s) ≡ c → OneOfThePapers settings s
-    by_code Bk framed coded = inl (calls.asked-papers settings s framed (bk_called settings) coded room roomy e)
-    by_code Da framed coded = inr (terminal, as_papers terminal settings s (calls.asked-papers settings s framed (verify_called terminal settings) coded room roomy e))
-    by_code Ea framed coded = inr (zone, as_papers zone settings s (calls.asked-papers settings s framed (verify_called zone settings) coded room roomy e))
+    by_code Bk framed coded = inl (calls.asked_papers settings s framed (bk_called settings) coded room roomy e)
+    by_code Da framed coded = inr (terminal, as_papers terminal settings s (calls.asked_papers settings s framed (verify_called terminal settings) coded room roomy e))
+    by_code Ea framed coded = inr (zone, as_papers zone settings s (calls.asked_papers settings s framed (verify_called zone settings) coded room roomy e))
     by_code Other framed coded = absurd (let z = rw (asked_framed settings s room roomy framed, coded) at e in omega arith)
 
-    by-frame : (b : Bool) → is_framed settings.header s ≡ b → OneOfThePapers settings s
-    by-frame false framed = absurd (let z = rw (asked_902 settings s room roomy framed) at e in omega arith)
-    by-frame true framed = by_code (code_of (drop settings.header s)) framed refl
+    by_frame : (b : Bool) → is_framed settings.header s ≡ b → OneOfThePapers settings s
+    by_frame false framed = absurd (let z = rw (asked_902 settings s room roomy framed) at e in omega arith)
+    by_frame true framed = by_code (code_of (drop settings.header s)) framed refl
 
 -- and such a command is asked for its block
 asked_back : (settings : Settings) (s : List ℕ) (room : ℕ) → 8 ≤ room → OneOfThePapers settings s → (quietly (asked settings s room)).number ≡ 0
 asked_back settings s room roomy one = by one
   where
-    done-00 : (t block : List ℕ) → s ≡ t → asked settings t room ≡ done block → (quietly (asked settings s room)).number ≡ 0
-    done-00 t block e d = ap (λ (t : List ℕ). (quietly (asked settings t room)).number) e ∙ ap (λ (o : Outcome (List ℕ)). (quietly o).number) d
+    done_00 : (t block : List ℕ) → s ≡ t → asked settings t room ≡ done block → (quietly (asked settings s room)).number ≡ 0
+    done_00 t block e d = ap (λ (t : List ℕ). (quietly (asked settings t room)).number) e ∙ ap (λ (o : Outcome (List ℕ)). (quietly o).number) d
 
     by : OneOfThePapers settings s → (quietly (asked settings s room)).number ≡ 0
-    by (inl c) = done-00 _ _ c.bytes (asks_parts settings room c.header c.parts roomy c.is_header c.is)
-    by (inr (w, c)) = done-00 _ _ c.bytes (verify_asks_parts w settings room c.header c.parts roomy c.is_header c.is)
+    by (inl c) = done_00 _ _ c.bytes (asks_parts settings room c.header c.parts roomy c.is_header c.is)
+    by (inr (w, c)) = done_00 _ _ c.bytes (verify_asks_parts w settings room c.header c.parts roomy c.is_header c.is)
 
 pub asked_exactly : AskedExactly
 asked_exactly settings s before after r roomy d = (
@@ -79,7 +79,7 @@ asked_exactly settings s before after r roomy d = (
 
 papers_or_early : (settings : Settings) (s : List ℕ) → OneOfThePapers settings s ⊎ Early settings s
 unfolding answer_by
-papers_or_early settings s = by-frame (is_framed settings.header s) refl
+papers_or_early settings s = by_frame (is_framed settings.header s) refl
   where
     verified : (w : Verifying) → PapersVerify w settings s → OneOfThePapers settings s
     verified w c = inr (w, c)
@@ -89,14 +89,14 @@ papers_or_early settings s = by-frame (is_framed settings.header s) refl
     firstly f (inr r) = inr r
 
     by_code : (c : Code) → is_framed settings.header s ≡ true → code_of (drop settings.header s) ≡ c → OneOfThePapers settings s ⊎ Early settings s
-    by_code Bk framed coded = firstly inl (calls.papers-or-early settings s framed (bk_called settings) coded)
-    by_code Da framed coded = firstly (λ c. verified terminal (as_papers terminal settings s c)) (calls.papers-or-early settings s framed (verify_called terminal settings) coded)
-    by_code Ea framed coded = firstly (λ c. verified zone (as_papers zone settings s c)) (calls.papers-or-early settings s framed (verify_called zone settings) coded)
+    by_code Bk framed coded = firstly inl (calls.papers_or_early settings s framed (bk_called settings) coded)
+    by_code Da framed coded = firstly (λ c. verified terminal (as_papers terminal settings s c)) (calls.papers_or_early settings s framed (verify_called terminal settings) coded)
+    by_code Ea framed coded = firstly (λ c. verified zone (as_papers zone settings s c)) (calls.papers_or_early settings s framed (verify_called zone settings) coded)
     by_code Other framed coded = inr (early settings s framed (record { refusal = Code68; field = 0; place = 0 }) refl (λ g h block enciphered. rw coded))
 
-    by-frame : (b : Bool) → is_framed settings.header s ≡ b → OneOfThePapers settings s ⊎ Early settings s
-    by-frame false framed = inr (902, refl, λ g h block enciphered room roomy. ap (λ (x : Said ℕ). x.number) (answered_902 settings g h s block enciphered room roomy framed))
-    by-frame true framed = by_code (code_of (drop settings.header s)) framed refl
+    by_frame : (b : Bool) → is_framed settings.header s ≡ b → OneOfThePapers settings s ⊎ Early settings s
+    by_frame false framed = inr (902, refl, λ g h block enciphered room roomy. ap (λ (x : Said ℕ). x.number) (answered_902 settings g h s block enciphered room roomy framed))
+    by_frame true framed = by_code (code_of (drop settings.header s)) framed refl
 
 pub never_past_the_fields : NeverPastTheFields
 never_past_the_fields settings s none = by (papers_or_early settings s)

@@ -111,10 +111,10 @@ module _ {A : Type 0} (k : Known A) (setting : ℕ) (s : List ℕ) (framed : is_
 
   -- what has a frame and the code is such a command, or its fields have a fault
   pub sent_or_faulty : Papers k setting s ⊎ ((f : Fault) × (k.fields s (setting + 2) ≡ faulty f))
-  sent_or_faulty = by-fields (k.fields s (setting + 2)) refl
+  sent_or_faulty = by_fields (k.fields s (setting + 2)) refl
     where
-      by-fields : (o : Stage A) → k.fields s (setting + 2) ≡ o → Papers k setting s ⊎ ((f : Fault) × (k.fields s (setting + 2) ≡ faulty f))
-      by-fields (read v past) e =
+      by_fields : (o : Stage A) → k.fields s (setting + 2) ≡ o → Papers k setting s ⊎ ((f : Fault) × (k.fields s (setting + 2) ≡ faulty f))
+      by_fields (read v past) e =
           let n = k.exactly.nothing_else s (setting + 2) v past e in
           inl (sent_from n.0 n.1 n.2)
-      by-fields (faulty f) e = inr (f, e)
+      by_fields (faulty f) e = inr (f, e)

@@ -74,14 +74,14 @@ module _ (s t : List ℕ) where
   -- ---- the commands behind the block
 
   module _ (ks : Keys) (block : Sealed) (at : ℕ) (long : length s ≡ length t) (e : drop at s ≡ drop at t) where
-    pub bk-tail : (restricted : Bool) → ((bk_layout restricted).tail ks block).stage s at ≡ ((bk_layout restricted).tail ks block).stage t at
-    bk-tail restricted =
+    pub bk_tail_lem : (restricted : Bool) → ((bk_layout restricted).tail ks block).stage s at ≡ ((bk_layout restricted).tail ks block).stage t at
+    bk_tail_lem restricted =
         onward_alike (offsetting 6 s at) (offsetting 6 t at) _ _ (offsetting_alike at e)
         (λ inputs at₁₀ r. let e₁₀ = past_inputs at e inputs at₁₀ r in onward_alike (weak 10 weak_mark s at₁₀) (weak 10 weak_mark t at₁₀) _ _ (weak_alike at₁₀ e₁₀)
         (λ pins at₁₁ r₂. onward_alike (end 11 ks s at₁₁) (end 11 ks t at₁₁) _ _ (end_alike ks at₁₁ long (past_weak at₁₀ e₁₀ pins at₁₁ r₂)) (λ _ _ _. refl)))
 
-    pub verify-tail : (pin_key : Use) → ((verify_layout pin_key).tail ks block).stage s at ≡ ((verify_layout pin_key).tail ks block).stage t at
-    verify-tail pin_key =
+    pub verify_tail_lem : (pin_key : Use) → ((verify_layout pin_key).tail ks block).stage s at ≡ ((verify_layout pin_key).tail ks block).stage t at
+    verify_tail_lem pin_key =
         onward_alike (offsetting 6 s at) (offsetting 6 t at) _ _ (offsetting_alike at e)
         (λ inputs at₁₀ r. field_alike 10 at₁₀ offset_field _ _ (past_inputs at e inputs at₁₀ r)
         (λ digits n e₁₁. onward_alike (end 11 ks s (at₁₀ + n)) (end 11 ks t (at₁₀ + n)) _ _ (end_alike ks (at₁₀ + n) long e₁₁) (λ _ _ _. refl)))

@@ -37,7 +37,7 @@ use Rattle.claims_commands.proofs.Listing.{bk_layout}
 use Rattle.claims_commands.proofs.VerifyLayout.{verify_layout}
 use Rattle.claims_extracting.specs.Blind.{BlockBegins, AnotherBlock, bytes_at, BlindToTheBlock}
 use Rattle.claims_extracting.proofs.Extracting.{bk_extracts, verify_extracts}
-use Rattle.claims_extracting.proofs.Ahead.{onward_alike, further, bk-tail, verify-tail}
+use Rattle.claims_extracting.proofs.Ahead.{onward_alike, further, bk_tail_lem, verify_tail_lem}
 
 -- a text of so many characters is told by as many
 begins_take : (ts cs : List ℕ) → begins ts (take (length ts) cs) ≡ begins ts cs
@@ -93,28 +93,28 @@ module _ (place : ℕ) (s t : List ℕ) (two : AnotherBlock place s t) where
   module _ {F X A S : Type 0} (c : Layout 16 F X A S) (at : ℕ) (f : F) (e : c.front.stage s at ≡ read f place)
       (blocks : c.block.stage s place ≡ c.block.stage t place)
       (tails : (x : X) (past : ℕ) → drop past s ≡ drop past t → (c.tail f x).stage s past ≡ (c.tail f x).stage t past) where
-    fields-alike : fields c s at ≡ fields c t at
-    fields-alike =
+    fields_alike : fields c s at ≡ fields c t at
+    fields_alike =
         let there = before s t at (c.front.stage s at) (c.front.stage t at) (c.front.writing at) (c.front.exact s at) (c.front.exact t at) f place e (c.whatever at) two.alike.before in
         rw (e, there)
         (onward_alike (c.block.stage s place) (c.block.stage t place) _ _ blocks
         (λ x past r. tails x past (behind past (c.passes.over s place x past r).1)))
 
-    block-there : (v : A) (past : ℕ) → fields c s at ≡ read v past → c.place v ≡ place
-    block-there v past r =
+    block_there : (v : A) (past : ℕ) → fields c s at ≡ read v past → c.place v ≡ place
+    block_there v past r =
         let b = onward_read (c.block.stage s place) (λ x at₃. (c.tail f x).stage s at₃) v past (rw e at r) in
         let o = (((c.tail f b.0).exact s b.1).only v past b.3).2 in
         ap c.place o.same ∙ c.placed f b.0 b.1 o.part ∙ (c.passes.over s place b.0 b.1 b.2).0
 
-    ruled-alike : (sealed : A → Sealed) → ((v : A) → (sealed v).block ≡ c.place v)
+    ruled_alike : (sealed : A → Sealed) → ((v : A) → (sealed v).block ≡ c.place v)
         → (at ≤ place) × Alike (and_then (ruled (fields c s at)) (λ v. done (block_in s (sealed v)))) (and_then (ruled (fields c t at)) (λ v. done (block_in t (sealed v))))
-    ruled-alike sealed placed = (omega (arith, ((c.front.exact s at).only f place e).1), rw (← fields-alike) (by-fields (fields c s at) refl))
+    ruled_alike sealed placed = (omega (arith, ((c.front.exact s at).only f place e).1), rw (← fields_alike) (by_fields (fields c s at) refl))
       where
-        by-fields : (o : Stage A) → fields c s at ≡ o → Alike (and_then (ruled o) (λ v. done (block_in s (sealed v)))) (and_then (ruled o) (λ v. done (block_in t (sealed v))))
-        by-fields (read v past) r =
-            let there = placed v ∙ block-there v past r in
+        by_fields : (o : Stage A) → fields c s at ≡ o → Alike (and_then (ruled o) (λ v. done (block_in s (sealed v)))) (and_then (ruled o) (λ v. done (block_in t (sealed v))))
+        by_fields (read v past) r =
+            let there = placed v ∙ block_there v past r in
             inr (ap (λ (k : ℕ). done (bytes_at s k)) there, ap (λ (k : ℕ). done (bytes_at t k)) there)
-        by-fields (faulty q) r = inl (q, refl, refl)
+        by_fields (faulty q) r = inl (q, refl, refl)
 
   -- ---- the commands
 
@@ -125,41 +125,41 @@ module _ (place : ℕ) (s t : List ℕ) (two : AnotherBlock place s t) where
     abbrev Blind : Code → Type 0
     Blind code = (at ≤ place) × Alike (extract_by code settings s at) (extract_by code settings t at)
 
-    verify-blind : (w : Verifying) (ks : _) → front (key_for w) s at ≡ read ks place → Blind (code_for w)
+    verify_blind : (w : Verifying) (ks : _) → front (key_for w) s at ≡ read ks place → Blind (code_for w)
     unfolding verify_fields front
-    verify-blind w ks e =
+    verify_blind w ks e =
         rw (verify_extracts w settings s at, verify_extracts w settings t at)
-        (ruled-alike (verify_layout (key_for w)) at ks e (sealed_alike 4 restricted) (λ x past h. verify-tail s t ks x past same_length h (key_for w)) (λ v. v.sealed) (λ v. refl))
+        (ruled_alike (verify_layout (key_for w)) at ks e (sealed_alike 4 restricted) (λ x past h. verify_tail_lem s t ks x past same_length h (key_for w)) (λ v. v.sealed) (λ v. refl))
 
-    blind-by : (code : Code) → BlockBegins code s at place → Blind code
+    blind_by : (code : Code) → BlockBegins code s at place → Blind code
     unfolding bk_fields
-    blind-by Bk (ks, e) =
+    blind_by Bk (ks, e) =
         rw (bk_extracts settings s at, bk_extracts settings t at)
-        (ruled-alike (bk_layout settings.restricted) at ks e (sealed_alike 4 settings.restricted) (λ x past h. bk-tail s t ks x past same_length h settings.restricted) (λ v. v.sealed) (λ v. refl))
-    blind-by Da (ks, e) = verify-blind terminal ks e
-    blind-by Ea (ks, e) = verify-blind zone ks e
-    blind-by Other none = absurd none
+        (ruled_alike (bk_layout settings.restricted) at ks e (sealed_alike 4 settings.restricted) (λ x past h. bk_tail_lem s t ks x past same_length h settings.restricted) (λ v. v.sealed) (λ v. refl))
+    blind_by Da (ks, e) = verify_blind terminal ks e
+    blind_by Ea (ks, e) = verify_blind zone ks e
+    blind_by Other none = absurd none
 
     -- ---- the call
 
     blind : (room : ℕ) → BlockBegins (code_in settings s) s at place → Alike (extracting settings s room) (extracting settings t room)
     unfolding extracting
-    blind room begun = by-frame (opened 16 room settings.header s) refl
+    blind room begun = by_frame (opened 16 room settings.header s) refl
       where
         open' : opened 16 room settings.header s ≡ opened 16 room settings.header t
-        open' = rw (same_frame settings.header (blind-by (code_in settings s) begun).0)
+        open' = rw (same_frame settings.header (blind_by (code_in settings s) begun).0)
 
         coded : extract_by (code_in settings t) settings t at ≡ extract_by (code_in settings s) settings t at
-        coded = rw (same_code settings.header (blind-by (code_in settings s) begun).0)
+        coded = rw (same_code settings.header (blind_by (code_in settings s) begun).0)
 
-        by-frame : (o : Outcome ℕ) → opened 16 room settings.header s ≡ o
+        by_frame : (o : Outcome ℕ) → opened 16 room settings.header s ≡ o
             → Alike (and_then (unpointed (opened 16 room settings.header s)) (λ code. extract_by (code_of (drop code s)) settings s (code + 2)))
             (and_then (unpointed (opened 16 room settings.header t)) (λ code. extract_by (code_of (drop code t)) settings t (code + 2)))
-        by-frame (refused q) o = rw (← open', o) (inl (record { refusal = q; field = 0; place = 0 }, refl, refl))
-        by-frame (done code) o =
+        by_frame (refused q) o = rw (← open', o) (inl (record { refusal = q; field = 0; place = 0 }, refl, refl))
+        by_frame (done code) o =
             let r = then_done (unless Room901 (leb 16 room) room) (λ _. framed settings.header s) code o in
             let header : settings.header ≡ code = (passed Frame902 (is_framed settings.header s) settings.header code r.2).1 in
-            let own = subst (Alike (extract_by (code_in settings s) settings s at)) (sym coded) (blind-by (code_in settings s) begun).1 in
+            let own = subst (Alike (extract_by (code_in settings s) settings s at)) (sym coded) (blind_by (code_in settings s) begun).1 in
             rw (← open', o) (subst (λ (k : ℕ). Alike (extract_by (code_of (drop k s)) settings s (k + 2)) (extract_by (code_of (drop k t)) settings t (k + 2))) header own)
 
 pub blind_to_the_block : BlindToTheBlock

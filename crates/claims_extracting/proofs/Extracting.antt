@@ -89,11 +89,11 @@ refused_alike settings s at f Other = (λ e. e, λ e. e)
 
 pub refuses_as_asking : RefusesAsAsking
 unfolding asking
-refuses_as_asking settings s room room' f k k' = by-frame (is_framed settings.header s) refl
+refuses_as_asking settings s room room' f k k' = by_frame (is_framed settings.header s) refl
   where
-    by-frame : (b : Bool) → is_framed settings.header s ≡ b → (extracting settings s room ≡ refused f) ↔ (asking settings s room' ≡ refused f)
-    by-frame true h = rw (extracting_framed settings s room k h, framed 8 room' settings.header s (λ code. ask_by (code_of (drop code s)) settings s (code + 2)) k' h) (refused_alike settings s (settings.header + 2) f (code_in settings s))
-    by-frame false h = rw (extracting_frameless settings s room k h, frameless 8 room' settings.header s (λ code. ask_by (code_of (drop code s)) settings s (code + 2)) k' h) (λ e. e, λ e. e)
+    by_frame : (b : Bool) → is_framed settings.header s ≡ b → (extracting settings s room ≡ refused f) ↔ (asking settings s room' ≡ refused f)
+    by_frame true h = rw (extracting_framed settings s room k h, framed 8 room' settings.header s (λ code. ask_by (code_of (drop code s)) settings s (code + 2)) k' h) (refused_alike settings s (settings.header + 2) f (code_in settings s))
+    by_frame false h = rw (extracting_frameless settings s room k h, frameless 8 room' settings.header s (λ code. ask_by (code_of (drop code s)) settings s (code + 2)) k' h) (λ e. e, λ e. e)
 
 shown_inside : {A : Type 0} (s : List ℕ) (o : Ruling A) → RulesShort s o → (shown o).place ≤ length s
 shown_inside s (done a) r = omega arith

@@ -1,6 +1,6 @@
--- What it means that the contract of a function admits one answer. The checker makes of each function f of a crate X the modules
--- that a caller's proof reads: `X.f.ended` is f's signature with the parameters that are still there at exit, and
--- `X.f.Reads.Learnt` is what f's `ensures` clauses say of the arguments, the answer and those parameters.
+-- What it means that the contract of a function admits one answer. The checker makes of each function f of a crate X what a
+-- caller's proof reads: `f.ended` of X's contracts is f's signature with the parameters that are still there at exit, and
+-- `f.Reads.Learnt` of X's proofs is what f's `ensures` clauses say of the arguments, the answer and those parameters.
 use Rattle.std.specs.Prelude.{◌≡◌}
 use contract.Lifetimes.{Lfts}
 use denote.Triple.Entry.{Args, Res}

@@ -77,11 +77,11 @@ one_row x block = and_then (unless Field15 x (nibs block)) (λ ns. and_then (unl
 box_short : (end : ℕ) (g h : Bool) (block enciphered : List ℕ) → (block ≡ []) ⊎ (enciphered ≡ []) → boxed end g h block enciphered ≡ refused (record { refusal = Field15; field = 0; place = end })
 unfolding boxed slices
 box_short end g h block enciphered (inl e) = rw e refl
-box_short end g h block enciphered (inr e) = rw e (by-test (eqb (length block) 8))
+box_short end g h block enciphered (inr e) = rw e (by_test (eqb (length block) 8))
   where
-    by-test : (x : Bool) → and_then (pointing 0 end (one_row x block)) (λ rows. and_then (unpointed (parities g h)) (λ _. done rows)) ≡ refused (record { refusal = Field15; field = 0; place = end })
-    by-test true = refl
-    by-test false = refl
+    by_test : (x : Bool) → and_then (pointing 0 end (one_row x block)) (λ rows. and_then (unpointed (parities g h)) (λ _. done rows)) ≡ refused (record { refusal = Field15; field = 0; place = end })
+    by_test true = refl
+    by_test false = refl
 
 -- ---- the parities, where both slices have eight bytes
 

@@ -77,12 +77,12 @@ pub same_said : (settings : Settings) (g h g' h' : Bool) (s block enciphered blo
     → answered settings g h s block enciphered room ≡ answered settings g' h' s block' enciphered' room
 unfolding replying answered
 same_said settings g h g' h' s block enciphered block' enciphered' room e =
-    by-frame (opened 65 room settings.header s) (commanded settings g h s block enciphered) (commanded settings g' h' s block' enciphered') e
+    by_frame (opened 65 room settings.header s) (commanded settings g h s block enciphered) (commanded settings g' h' s block' enciphered') e
   where
-    by-frame : (o : Outcome ℕ) (c c' : ℕ → Ruling (List ℕ)) → and_then (unpointed o) c ≡ and_then (unpointed o) c'
+    by_frame : (o : Outcome ℕ) (c c' : ℕ → Ruling (List ℕ)) → and_then (unpointed o) c ≡ and_then (unpointed o) c'
         → silently (and_then o (λ code. done (responding settings.header s (heard (c code))))) ≡ silently (and_then o (λ code. done (responding settings.header s (heard (c' code)))))
-    by-frame (done code) c c' same = ap (λ (o : Ruling (List ℕ)). responding settings.header s (heard o)) same
-    by-frame (refused q) c c' same = refl
+    by_frame (done code) c c' same = ap (λ (o : Ruling (List ℕ)). responding settings.header s (heard o)) same
+    by_frame (refused q) c c' same = refl
 
 pub fields_first : FieldsFirst
 unfolding lab_replying lab_answered

@@ -91,22 +91,22 @@ refused_none reader w x s at q e p end g b =
 -- a field's own fault, or one behind it
 pub field_fault_lem : {A B C : Type 0} (k : ℕ) (reader : List ℕ → Found A) (w : Writing A) (x : Exact reader w) (s : List ℕ) (at : ℕ) (next : A → ℕ → Stage B) (f : Fault)
     → field k reader s at next ≡ faulty f → (None w s at → (f.field ≡ k) × (f.place ≡ at) → C) → Behind w (λ p. w.text p ∷ []) s at (λ a past. next a past ≡ faulty f) C → C
-field_fault_lem {A} {B} {C} k reader w x s at next f e own behind = by-found (reader (drop at s)) refl e
+field_fault_lem {A} {B} {C} k reader w x s at next f e own behind = by_found (reader (drop at s)) refl e
   where
-    by-found : (o : Found A) → reader (drop at s) ≡ o → fielded k at o next ≡ faulty f → C
-    by-found (done r) h g =
+    by_found : (o : Found A) → reader (drop at s) ≡ o → fielded k at o next ≡ faulty f → C
+    by_found (done r) h g =
         opened w (λ p. w.text p ∷ []) (λ p. sym (append-nil (w.text p))) s at r.1 (at + r.1) r.0 (λ a past. next a past ≡ faulty f) (x.only (drop at s) r.0 r.1 h) refl g behind
-    by-found (refused q) h g = let same : record { refusal = q; field = k; place = at } ≡ f = cc in own (refused_none reader w x s at q h) (sym (ap (λ (y : Fault). y.field) same), sym (ap (λ (y : Fault). y.place) same))
+    by_found (refused q) h g = let same : record { refusal = q; field = k; place = at } ≡ f = cc in own (refused_none reader w x s at q h) (sym (ap (λ (y : Fault). y.field) same), sym (ap (λ (y : Fault). y.place) same))
 
 -- a stage's own fault, or one behind it, where its text is that of some fields
 pub onward_fault : {A B C : Type 0} (s : List ℕ) (at : ℕ) (stage : Stage A) (w : Writing A) (x : ExactAt s at stage w) (texts : w.Part → List (List ℕ)) (whole : (p : w.Part) → w.text p ≡ together (texts p))
     (next : A → ℕ → Stage B) (f : Fault)
     → onward stage next ≡ faulty f → (stage ≡ faulty f → C) → Behind w texts s at (λ a past. next a past ≡ faulty f) C → C
-onward_fault {A} {B} {C} s at stage w x texts whole next f e own behind = by-stage stage refl e
+onward_fault {A} {B} {C} s at stage w x texts whole next f e own behind = by_stage stage refl e
   where
-    by-stage : (o : Stage A) → stage ≡ o → onward o next ≡ faulty f → C
-    by-stage (read a past) h g = let r = x.only a past h in opened w texts whole s at r.0 past a (λ b end. next b end ≡ faulty f) r.2 r.1 g behind
-    by-stage (faulty g) h k = let same : g ≡ f = cc in own (h ∙ ap faulty same)
+    by_stage : (o : Stage A) → stage ≡ o → onward o next ≡ faulty f → C
+    by_stage (read a past) h g = let r = x.only a past h in opened w texts whole s at r.0 past a (λ b end. next b end ≡ faulty f) r.2 r.1 g behind
+    by_stage (faulty g) h k = let same : g ≡ f = cc in own (h ∙ ap faulty same)
 
 -- what was read is no fault
 pub no_fault_lem : {A C : Type 0} {a : A} {n : ℕ} {f : Fault} → read a n ≡ faulty f → C

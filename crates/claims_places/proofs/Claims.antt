@@ -63,13 +63,13 @@ quiet_number (refused f) = refl
 
 pub one_fault : OneFault
 unfolding answered replying
-one_fault = (λ settings s room. quiet_number (asking settings s room), λ settings g h s block enciphered room. by-frame settings g h s block enciphered (opened 65 room settings.header s))
+one_fault = (λ settings s room. quiet_number (asking settings s room), λ settings g h s block enciphered room. by_frame settings g h s block enciphered (opened 65 room settings.header s))
   where
-    by-frame : (settings : Settings) (g h : Bool) (s block enciphered : List ℕ) (o : Outcome ℕ)
+    by_frame : (settings : Settings) (g h : Bool) (s block enciphered : List ℕ) (o : Outcome ℕ)
         → (silently (and_then o (λ code. done (responding settings.header s (heard (commanded settings g h s block enciphered code)))))).number
         ≡ number_in (and_then (unpointed o) (λ code. commanded settings g h s block enciphered code))
-    by-frame settings g h s block enciphered (done code) = said_number settings.header s (commanded settings g h s block enciphered code)
-    by-frame settings g h s block enciphered (refused q) = refl
+    by_frame settings g h s block enciphered (done code) = said_number settings.header s (commanded settings g h s block enciphered code)
+    by_frame settings g h s block enciphered (refused q) = refl
 
 -- ---- faults that point at nothing
 
@@ -220,19 +220,19 @@ module _ (settings : Settings) where
     abbrev Answers : Code → Fault → Type 0
     Answers code f = Nothing f ⊎ (Numbered (λ g. InCommand code settings s (pointer_of g)) f ⊎ ((f ≡ at_the_end s) × SlicesNotEight block enciphered))
 
-    answer-by : (code : Code) (f : Fault) → answer_by code settings g h s (settings.header + 2) block enciphered ≡ refused f → Answers code f
+    answer_by_lem : (code : Code) (f : Fault) → answer_by code settings g h s (settings.header + 2) block enciphered ≡ refused f → Answers code f
     unfolding answer_by
-    answer-by Bk f e = answer_where (bk_shape settings) (λ s at f. Numbered (λ g. PointsAt (bk_form settings.restricted) s at (pointer_of g)) f) bk_fields_lem (asked_done settings.restricted) (bk_finish_lem settings.variable) g h s _ block enciphered f e
-    answer-by Da f e = answer_where (verify_shape terminal settings) (λ s at f. Numbered (λ g. PointsAt (verify_form terminal_key_rule) s at (pointer_of g)) f) (verify_fields_lem terminal) (verify_asked (key_for terminal)) (verify_finish_lem settings.variable) g h s _ block enciphered f e
-    answer-by Ea f e = answer_where (verify_shape zone settings) (λ s at f. Numbered (λ g. PointsAt (verify_form zone_key_rule) s at (pointer_of g)) f) (verify_fields_lem zone) (verify_asked (key_for zone)) (verify_finish_lem settings.variable) g h s _ block enciphered f e
-    answer-by Other f e = inl (subst Nothing (fault_of e) (refl, refl))
+    answer_by_lem Bk f e = answer_where (bk_shape settings) (λ s at f. Numbered (λ g. PointsAt (bk_form settings.restricted) s at (pointer_of g)) f) bk_fields_lem (asked_done settings.restricted) (bk_finish_lem settings.variable) g h s _ block enciphered f e
+    answer_by_lem Da f e = answer_where (verify_shape terminal settings) (λ s at f. Numbered (λ g. PointsAt (verify_form terminal_key_rule) s at (pointer_of g)) f) (verify_fields_lem terminal) (verify_asked (key_for terminal)) (verify_finish_lem settings.variable) g h s _ block enciphered f e
+    answer_by_lem Ea f e = answer_where (verify_shape zone settings) (λ s at f. Numbered (λ g. PointsAt (verify_form zone_key_rule) s at (pointer_of g)) f) (verify_fields_lem zone) (verify_asked (key_for zone)) (verify_finish_lem settings.variable) g h s _ block enciphered f e
+    answer_by_lem Other f e = inl (subst Nothing (fault_of e) (refl, refl))
 
-    short-by : (code : Code) (at : ℕ) (bytes : List ℕ) → ask_by code settings s at ≡ done bytes → SlicesNotEight block enciphered → answer_by code settings g h s at block enciphered ≡ refused (at_the_end s)
+    short_by : (code : Code) (at : ℕ) (bytes : List ℕ) → ask_by code settings s at ≡ done bytes → SlicesNotEight block enciphered → answer_by code settings g h s at block enciphered ≡ refused (at_the_end s)
     unfolding ask_by answer_by
-    short-by Bk at bytes e short = answer_short (bk_shape settings) (λ s at f. Unit {0}) (λ s at f e. tt) (asked_done settings.restricted) (bk_finish_lem settings.variable) g h s at block enciphered bytes e short
-    short-by Da at bytes e short = answer_short (verify_shape terminal settings) (λ s at f. Unit {0}) (λ s at f e. tt) (verify_asked (key_for terminal)) (verify_finish_lem settings.variable) g h s at block enciphered bytes e short
-    short-by Ea at bytes e short = answer_short (verify_shape zone settings) (λ s at f. Unit {0}) (λ s at f e. tt) (verify_asked (key_for zone)) (verify_finish_lem settings.variable) g h s at block enciphered bytes e short
-    short-by Other at bytes e short = absurd (let z : ◌≡◌ {A = ℕ} 0 1 = cc in omega arith)
+    short_by Bk at bytes e short = answer_short (bk_shape settings) (λ s at f. Unit {0}) (λ s at f e. tt) (asked_done settings.restricted) (bk_finish_lem settings.variable) g h s at block enciphered bytes e short
+    short_by Da at bytes e short = answer_short (verify_shape terminal settings) (λ s at f. Unit {0}) (λ s at f e. tt) (verify_asked (key_for terminal)) (verify_finish_lem settings.variable) g h s at block enciphered bytes e short
+    short_by Ea at bytes e short = answer_short (verify_shape zone settings) (λ s at f. Unit {0}) (λ s at f e. tt) (verify_asked (key_for zone)) (verify_finish_lem settings.variable) g h s at block enciphered bytes e short
+    short_by Other at bytes e short = absurd (let z : ◌≡◌ {A = ℕ} 0 1 = cc in omega arith)
 
 -- ---- the calls
 
@@ -258,7 +258,7 @@ unfolding replying
 replying_points settings g h s block enciphered room f e =
     opened_where 65 room settings.header s
     (λ q o n. inl (subst Nothing (fault_of (rw o at e)) (n, refl)))
-    (λ _ o. then_fault (answer_by (code_in settings s) settings g h s (settings.header + 2) block enciphered) _ f (rw o at e) (answer-by settings g h s block enciphered (code_in settings s) f)
+    (λ _ o. then_fault (answer_by (code_in settings s) settings g h s (settings.header + 2) block enciphered) _ f (rw o at e) (answer_by_lem settings g h s block enciphered (code_in settings s) f)
     (λ _ _ d. absurd (let z : ◌≡◌ {A = ℕ} 0 1 = cc in omega arith)))
 
 -- what is shown of a fault is its pointer
@@ -282,12 +282,12 @@ same_frame settings s room room' k k' = rw (le-leb 8 room k, le-leb 65 room' k')
 
 pub both_point_alike : BothPointAlike
 unfolding asking replying
-both_point_alike settings g h s block enciphered room room' f k k' e = by-frame (opened 8 room settings.header s) (same_frame settings s room room' k k') e
+both_point_alike settings g h s block enciphered room room' f k k' e = by_frame (opened 8 room settings.header s) (same_frame settings s room room' k k') e
   where
-    by-frame : (o : Outcome ℕ) → o ≡ opened 65 room' settings.header s → and_then (unpointed o) (λ code. ask_by (code_of (drop code s)) settings s (code + 2)) ≡ refused f
+    by_frame : (o : Outcome ℕ) → o ≡ opened 65 room' settings.header s → and_then (unpointed o) (λ code. ask_by (code_of (drop code s)) settings s (code + 2)) ≡ refused f
         → and_then (unpointed (opened 65 room' settings.header s)) (λ code. commanded settings g h s block enciphered code) ≡ refused f
-    by-frame (done code) o d = rw (← o, refused_alike settings g h s block enciphered (code_of (drop code s)) (code + 2) f d)
-    by-frame (refused q) o d = rw (← o) (ap refused (fault_of d))
+    by_frame (done code) o d = rw (← o, refused_alike settings g h s block enciphered (code_of (drop code s)) (code + 2) f d)
+    by_frame (refused q) o d = rw (← o) (ap refused (fault_of d))
 
 slices_refused : (settings : Settings) (g h : Bool) (s block enciphered : List ℕ) (room room' : ℕ) (bytes : List ℕ) → asking settings s room ≡ done bytes → 65 ≤ room' → SlicesNotEight block enciphered
     → replying settings g h s block enciphered room' ≡ refused (at_the_end s)
@@ -296,7 +296,7 @@ slices_refused settings g h s block enciphered room room' bytes e k short =
     let o = then_done (unpointed (opened 8 room settings.header s)) _ bytes e in
     let code = pointing_done 0 0 (opened 8 room settings.header s) o.0 o.1 in
     let roomy = then_done (unless Room901 (leb 8 room) room) _ o.0 code in
-    rw (le-leb 65 room' k, roomy.2, short-by settings g h s block enciphered (code_of (drop o.0 s)) (o.0 + 2) bytes o.2 short)
+    rw (le-leb 65 room' k, roomy.2, short_by settings g h s block enciphered (code_of (drop o.0 s)) (o.0 + 2) bytes o.2 short)
 
 pub slices_at_the_end : SlicesAtTheEnd
 slices_at_the_end settings g h s block enciphered room room' bytes e k short =
@@ -325,13 +325,13 @@ pointed_other n quiet pointed = let z = listed_passes (λ m. not (listed m quiet
 
 pub numbers_show_nothing : NumbersShowNothing
 numbers_show_nothing = (
-  λ settings s room. by-ask settings s room (asking settings s room) refl,
+  λ settings s room. by_ask settings s room (asking settings s room) refl,
   λ settings g h s block enciphered room. by_answer settings g h s block enciphered room (replying settings g h s block enciphered room) refl,
 )
   where
-    by-ask : (settings : Settings) (s : List ℕ) (room : ℕ) (o : Ruling (List ℕ)) → asking settings s room ≡ o → NothingShown o
-    by-ask settings s room (done w) e quiet = refl
-    by-ask settings s room (refused f) e quiet = by_kind (asking_points settings s room f e)
+    by_ask : (settings : Settings) (s : List ℕ) (room : ℕ) (o : Ruling (List ℕ)) → asking settings s room ≡ o → NothingShown o
+    by_ask settings s room (done w) e quiet = refl
+    by_ask settings s room (refused f) e quiet = by_kind (asking_points settings s room f e)
       where
         by_kind : Nothing f ⊎ AtFields settings s f.refusal (pointer_of f) → pointer_of f ≡ nowhere
         by_kind (inl a) = a.1

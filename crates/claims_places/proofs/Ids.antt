@@ -51,11 +51,11 @@ trailer_fine absent g = refl
 trailer_fine (present cs) g = (g, inl refl)
 
 apart : (ks : Keys) (v : Optional ℕ) → (AllSame (ids_read ks.first ++ (ids_read ks.second ++ own_ids v)) → ⊥) → all_agree ks (ids.value v) ≡ false
-apart ks v differ = by-test (all_agree ks (ids.value v)) refl
+apart ks v differ = by_test (all_agree ks (ids.value v)) refl
   where
-    by-test : (b : Bool) → all_agree ks (ids.value v) ≡ b → b ≡ false
-    by-test true h = absurd (differ (subst (λ (l : List ℕ). AllSame (ids_read ks.first ++ (ids_read ks.second ++ l))) (own_ids_lem v) ((ids_agree_lem ks.first ks.second (ids.value v)).0 h)))
-    by-test false h = refl
+    by_test : (b : Bool) → all_agree ks (ids.value v) ≡ b → b ≡ false
+    by_test true h = absurd (differ (subst (λ (l : List ℕ). AllSame (ids_read ks.first ++ (ids_read ks.second ++ l))) (own_ids_lem v) ((ids_agree_lem ks.first ks.second (ids.value v)).0 h)))
+    by_test false h = refl
 
 end_apart : (ks : Keys) (s : List ℕ) (from : ℕ) (e : EndFields) → AreEnd e → drop from s ≡ end_text e ++ [] → (AllSame (ids_read ks.first ++ (ids_read ks.second ++ own_ids e.id)) → ⊥)
     → end 11 ks s from ≡ faulty (last_id ks (ids.value e.id) 11 from)
@@ -96,13 +96,13 @@ module _ (start k m : ℕ) (texts : List (List ℕ)) (first second : Key) where
   last_fault_is : (ks : Keys) (from : ℕ) (v : Optional ℕ) → ks.field ≡ m → ks.place ≡ start + length (together (take (m - 1) texts)) → from ≡ start + length (together (take 10 texts))
       → (AllSame (key_ids first ++ (key_ids second ++ own_ids v)) → ⊥) → last_id ks (ids.value v) 11 from ≡ field_fault start texts (last v)
   last_fault_is ks from (present n) f p own differ = rw (last_own k m (key_ids first) (key_ids second) n) (ap (λ (i : ℕ). record { refusal = Field15; field = 11; place = i }) own)
-  last_fault_is ks from absent f p own differ = by-second second refl
+  last_fault_is ks from absent f p own differ = by_second second refl
     where
-      by-second : (x : Key) → second ≡ x → last_id ks (ids.value absent) 11 from ≡ field_fault start texts (last absent)
-      by-second (block b) e = rw (e, last_second k m (key_ids first) b.id) (ap₂ (λ (i j : ℕ). record { refusal = Field15; field = i; place = j }) f p)
-      by-second (bare cs) e = absurd (differ (rw e (one_agrees first)))
-      by-second (double cs) e = absurd (differ (rw e (one_agrees first)))
-      by-second (triple cs) e = absurd (differ (rw e (one_agrees first)))
+      by_second : (x : Key) → second ≡ x → last_id ks (ids.value absent) 11 from ≡ field_fault start texts (last absent)
+      by_second (block b) e = rw (e, last_second k m (key_ids first) b.id) (ap₂ (λ (i j : ℕ). record { refusal = Field15; field = i; place = j }) f p)
+      by_second (bare cs) e = absurd (differ (rw e (one_agrees first)))
+      by_second (double cs) e = absurd (differ (rw e (one_agrees first)))
+      by_second (triple cs) e = absurd (differ (rw e (one_agrees first)))
 
 -- ---- BK
 

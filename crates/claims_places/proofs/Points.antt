@@ -114,10 +114,10 @@ module _ {P : Type 0} (form : Form P) (twelve : (p : P) → length (form.texts p
         more = more;
       } in
       record { field = λ h. absurd (omega arith); over = λ _. left }
-  end_points ks at n ts x counted few key (apart e g ends differ which) = by-id which
+  end_points ks at n ts x counted few key (apart e g ends differ which) = by_id which
     where
-      ids-apart : IdsApart form s start
-      ids-apart = (
+      ids_apart : IdsApart form s start
+      ids_apart = (
         x.build e,
         x.good e g,
         x.before.bytes ∙ ap (λ (l : List ℕ). together ts ++ l) ends ∙ sym (together_append ts (end_fields e)) ∙ ap together (sym (x.same e)),
@@ -125,18 +125,18 @@ module _ {P : Type 0} (form : Form P) (twelve : (p : P) → length (form.texts p
       )
 
       -- the first m of its fields are the first m texts
-      first-texts : (m : ℕ) → m ≤ 10 → take m (form.texts (x.build e)) ≡ take m ts
-      first-texts m h = ap (take m) (x.same e) ∙ take-append-le m ts (end_fields e) (omega (arith, x.ten))
+      first_texts : (m : ℕ) → m ≤ 10 → take m (form.texts (x.build e)) ≡ take m ts
+      first_texts m h = ap (take m) (x.same e) ∙ take-append-le m ts (end_fields e) (omega (arith, x.ten))
 
-      all-ten : take 10 ts ≡ ts
-      all-ten = take_all 10 ts (omega (arith, x.ten))
+      all_ten : take 10 ts ≡ ts
+      all_ten = take_all 10 ts (omega (arith, x.ten))
 
       at_field : (m place : ℕ) → f.field ≡ suc m → f.place ≡ place → m ≤ 10 → Between s start place (take m ts) → form.Skipped (x.build e) m (drop place s) → There
       at_field m place k p h b skipped =
           let before : f.field - 1 ≡ m = omega arith in
           points_fail (omega arith) (omega arith)
-          (rw (before, p) (record { parts = x.build e; before = (x.good e g, subst (Between s start place) (sym (first-texts m h)) b); skipped = skipped; failed = inr ids-apart }))
+          (rw (before, p) (record { parts = x.build e; before = (x.good e g, subst (Between s start place) (sym (first_texts m h)) b); skipped = skipped; failed = inr ids_apart }))
 
-      by-id : ((f.field ≡ 11) × (f.place ≡ at)) ⊎ ((f.field ≡ ks.field) × (f.place ≡ ks.place)) → There
-      by-id (inl (k, p)) = at_field 10 at k p (omega arith) (subst (Between s start at) (sym all-ten) x.before) (x.own e)
-      by-id (inr (k, p)) = at_field n ks.place (k ∙ counted) p (omega arith) key (x.early (x.build e) n (drop ks.place s) few)
+      by_id : ((f.field ≡ 11) × (f.place ≡ at)) ⊎ ((f.field ≡ ks.field) × (f.place ≡ ks.place)) → There
+      by_id (inl (k, p)) = at_field 10 at k p (omega arith) (subst (Between s start at) (sym all_ten) x.before) (x.own e)
+      by_id (inr (k, p)) = at_field n ks.place (k ∙ counted) p (omega arith) key (x.early (x.build e) n (drop ks.place s) few)

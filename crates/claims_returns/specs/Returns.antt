@@ -9,6 +9,7 @@ use Rattle.frame.specs.declared.Code.TheVariants.{Bk}
 use Rattle.fields.specs.Fields.{nowhere}
 use Rattle.face.specs.Face.{settings_of, yes?, pointer_in}
 use Rattle.quillgimlet.proofs as Face
+use Rattle.quillgimlet.specs.contracts as FaceSays
 use Rattle.claims_blocks.specs.Promises.{listed}
 use Rattle.claims_commands.specs.Runs.{code_in, Reads, Verifying, code_for}
 use Rattle.claims_commands.specs.Claims.{Tells, read_numbers}
@@ -17,11 +18,11 @@ use Rattle.claims_verification.specs.Told.{Alike, SameVerdict}
 
 -- a return of `qg_answer` that its contract allows: the arguments, the answer, and what each lent buffer holds at exit
 pub record Return : Type 0 where
-  pub lifetimes : Lfts (Face.qg_answer.ended).signature.lifetimes
-  pub arguments : Args (Face.qg_answer.ended).signature lifetimes
-  pub reply : Res (Face.qg_answer.ended).signature lifetimes
-  pub ends : Lasts Face.qg_answer.ended lifetimes arguments
-  pub allowed : Face.qg_answer.Reads.Learnt lifetimes arguments reply (at_exit Face.qg_answer.ended lifetimes arguments ends)
+  pub lifetimes : Lfts (FaceSays.qg_answer.ended).signature.lifetimes
+  pub arguments : Args (FaceSays.qg_answer.ended).signature lifetimes
+  pub reply : Res (FaceSays.qg_answer.ended).signature lifetimes
+  pub ends : Lasts FaceSays.qg_answer.ended lifetimes arguments
+  pub allowed : Face.qg_answer.Reads.Learnt lifetimes arguments reply (at_exit FaceSays.qg_answer.ended lifetimes arguments ends)
 
 -- ---- the arguments, from the left
 

@@ -85,16 +85,16 @@ module _ (from to : ℕ) (block account fill : List ℕ) (room : ℕ) where
   pair_narrowed : 8 ≤ room → (ns digits fs : List ℕ) → sized 8 block ≡ done ns → account_of account ≡ done digits → sized 8 fill ≡ done fs → Narrowed kind (pair_of true from to) (pair_of false from to)
   pair_narrowed roomy ns digits fs e₁ e₂ e₃ = rw (pair_tested from to) (by (pair_of false from to) refl)
     where
-      by-test : (pair : Format × Format) (allowed : Bool) → permitted true pair.0 pair.1 ≡ allowed → pair_of false from to ≡ done pair → Narrowed kind (unless NotHere69 allowed pair) (done pair)
-      by-test pair true h e = inl refl
-      by-test pair false h e = inr (
+      by_test : (pair : Format × Format) (allowed : Bool) → permitted true pair.0 pair.1 ≡ allowed → pair_of false from to ≡ done pair → Narrowed kind (unless NotHere69 allowed pair) (done pair)
+      by_test pair true h e = inl refl
+      by_test pair false h e = inr (
         NotHere69,
         (refl, record { roomy = roomy; ns = ns; whole = e₁; digits = digits; numbered = e₂; fs = fs; filled = e₃; pair = pair; built = e; outside = h }),
         refl,
       )
 
       by : (o : Outcome (Format × Format)) → pair_of false from to ≡ o → Narrowed kind (and_then o paired) o
-      by (done pair) e = by-test pair (permitted true pair.0 pair.1) refl e
+      by (done pair) e = by_test pair (permitted true pair.0 pair.1) refl e
       by (refused q) e = inl refl
 
   -- one argument after the other
@@ -173,19 +173,19 @@ not_read e = let z : ◌≡◌ {A = ℕ} 0 1 = cc in omega arith
 -- the stage of PIN block and format
 sealed_splits : (s : List ℕ) (at : ℕ) → Splits (sealed 4 false s at) (sealed 4 true s at) (sealed 4 false s at)
 unfolding sealed run
-sealed_splits s at = by-block (leb 16 (length (drop at s))) (all_of CapitalHex (take 16 (drop at s)))
+sealed_splits s at = by_block (leb 16 (length (drop at s))) (all_of CapitalHex (take 16 (drop at s)))
   where
     -- what the stage comes to, from what was found of the format
     from : Found Format → Stage Sealed
     from o = fielded 5 (at + 16) o (λ f next. read (record { block = at; format = f }) next)
 
-    by-test : (f : Format) (n : ℕ) (allowed : Bool) → is01or47 f ≡ allowed → Splits (from (done (f, n))) (from (tested (done (f, n)))) (from (done (f, n)))
-    by-test f n true h = inl (ap (λ (b : Bool). from (unless NotHere69 b (f, n))) h, λ b past e. ap (λ (b : Sealed). is01or47 b.format) (sym (read_once e).0) ∙ h)
-    by-test f n false h = inr (record { block = at; format = f }, at + 16 + n, refl, h, ap (λ (b : Bool). from (unless NotHere69 b (f, n))) h)
+    by_test : (f : Format) (n : ℕ) (allowed : Bool) → is01or47 f ≡ allowed → Splits (from (done (f, n))) (from (tested (done (f, n)))) (from (done (f, n)))
+    by_test f n true h = inl (ap (λ (b : Bool). from (unless NotHere69 b (f, n))) h, λ b past e. ap (λ (b : Sealed). is01or47 b.format) (sym (read_once e).0) ∙ h)
+    by_test f n false h = inr (record { block = at; format = f }, at + 16 + n, refl, h, ap (λ (b : Bool). from (unless NotHere69 b (f, n))) h)
 
-    by-found : (o : Found Format) → Splits (from o) (from (tested o)) (from o)
-    by-found (done (f, n)) = by-test f n (is01or47 f) refl
-    by-found (refused q) = inl (refl, λ b past e. absurd (not_read e))
+    by_found : (o : Found Format) → Splits (from o) (from (tested o)) (from o)
+    by_found (done (f, n)) = by_test f n (is01or47 f) refl
+    by_found (refused q) = inl (refl, λ b past e. absurd (not_read e))
 
     -- from what was found of the PIN block
     behind : Found ℕ → Bool → Stage Sealed
@@ -194,24 +194,24 @@ sealed_splits s at = by-block (leb 16 (length (drop at s))) (all_of CapitalHex (
     block : Bool → Bool → Found ℕ
     block long hex = and_then {A = ℕ} (unless Field15 long 16) (λ _. unless Field15 hex (16, 16))
 
-    by-block : (long hex : Bool) → Splits (behind (block long hex) false) (behind (block long hex) true) (behind (block long hex) false)
-    by-block true true = rw (format_tested (drop (at + 16) s)) (by-found (format_field false (drop (at + 16) s)))
-    by-block true false = inl (refl, λ b past e. absurd (not_read e))
-    by-block false hex = inl (refl, λ b past e. absurd (not_read e))
+    by_block : (long hex : Bool) → Splits (behind (block long hex) false) (behind (block long hex) true) (behind (block long hex) false)
+    by_block true true = rw (format_tested (drop (at + 16) s)) (by_found (format_field false (drop (at + 16) s)))
+    by_block true false = inl (refl, λ b past e. absurd (not_read e))
+    by_block false hex = inl (refl, λ b past e. absurd (not_read e))
 
 -- all fields of a BK
 bk_splits : (s : List ℕ) (at : ℕ) → Splits (up_to_format s at) (bk_fields true s at) (bk_fields false s at)
 unfolding bk_fields
-bk_splits s at = by-keys (keys 1 pin_key pvk s at) _
+bk_splits s at = by_keys (keys 1 pin_key pvk s at) _
   where
-    by-sealed : (narrow wide : Stage Sealed) (next : Sealed → ℕ → Stage bk.Bk) → Splits wide narrow wide → Splits wide (onward narrow next) (onward wide next)
-    by-sealed narrow wide next (inl (e, allowed)) = inl (ap (λ (x : Stage Sealed). onward x next) e, allowed)
-    by-sealed narrow wide next (inr (b, past, r, o, e)) = inr (b, past, r, o, ap (λ (x : Stage Sealed). onward x next) e)
+    by_sealed : (narrow wide : Stage Sealed) (next : Sealed → ℕ → Stage bk.Bk) → Splits wide narrow wide → Splits wide (onward narrow next) (onward wide next)
+    by_sealed narrow wide next (inl (e, allowed)) = inl (ap (λ (x : Stage Sealed). onward x next) e, allowed)
+    by_sealed narrow wide next (inr (b, past, r, o, e)) = inr (b, past, r, o, ap (λ (x : Stage Sealed). onward x next) e)
 
-    by-keys : (k : Stage Keys) (next : Keys → Sealed → ℕ → Stage bk.Bk)
+    by_keys : (k : Stage Keys) (next : Keys → Sealed → ℕ → Stage bk.Bk)
         → Splits (onward k (λ _ at₄. sealed 4 false s at₄)) (onward k (λ ks at₄. onward (sealed 4 true s at₄) (next ks))) (onward k (λ ks at₄. onward (sealed 4 false s at₄) (next ks)))
-    by-keys (read ks at₄) next = by-sealed (sealed 4 true s at₄) (sealed 4 false s at₄) (next ks) (sealed_splits s at₄)
-    by-keys (faulty f) next = inl (refl, λ b past e. absurd (not_read e))
+    by_keys (read ks at₄) next = by_sealed (sealed 4 true s at₄) (sealed 4 false s at₄) (next ks) (sealed_splits s at₄)
+    by_keys (faulty f) next = inl (refl, λ b past e. absurd (not_read e))
 
 -- so where another format is read, Yes refuses
 bk_refuses : (s : List ℕ) (at : ℕ) (b : Sealed) (past : ℕ) → up_to_format s at ≡ read b past → OneOf b.format others → bk_fields true s at ≡ faulty (at_format b)
@@ -263,21 +263,21 @@ module _ (settings : Settings) (s : List ℕ) where
       by false framed e = inl refl
 
   module _ (g h : Bool) (block enciphered : List ℕ) where
-    answers-narrowed : is_framed settings.header s ≡ true → (c : Code) → code_in settings s ≡ c
+    answers_narrowed : is_framed settings.header s ≡ true → (c : Code) → code_in settings s ≡ c
         → Narrowed (NotAllowed settings s) (answer_by c (restricted_to settings true) g h s (settings.header + 2) block enciphered)
         (answer_by c (restricted_to settings false) g h s (settings.header + 2) block enciphered)
     unfolding answer_by bk_answer
-    answers-narrowed framed Bk coded =
+    answers_narrowed framed Bk coded =
         before_narrowed _ (ruled (bk_fields true s (settings.header + 2))) (ruled (bk_fields false s (settings.header + 2))) _ (fields_narrowed framed coded)
-    answers-narrowed framed Da coded = inl refl
-    answers-narrowed framed Ea coded = inl refl
-    answers-narrowed framed Other coded = inl refl
+    answers_narrowed framed Da coded = inl refl
+    answers_narrowed framed Ea coded = inl refl
+    answers_narrowed framed Other coded = inl refl
 
-    commanded-narrowed : is_framed settings.header s ≡ true
+    commanded_narrowed : is_framed settings.header s ≡ true
         → Narrowed (NotAllowed settings s) (commanded (restricted_to settings true) g h s block enciphered settings.header) (commanded (restricted_to settings false) g h s block enciphered settings.header)
-    commanded-narrowed framed =
+    commanded_narrowed framed =
         before_narrowed _ (answer_by (code_in settings s) (restricted_to settings true) g h s (settings.header + 2) block enciphered)
-        (answer_by (code_in settings s) (restricted_to settings false) g h s (settings.header + 2) block enciphered) _ (answers-narrowed framed (code_in settings s) refl)
+        (answer_by (code_in settings s) (restricted_to settings false) g h s (settings.header + 2) block enciphered) _ (answers_narrowed framed (code_in settings s) refl)
 
   -- the fault of a BK that is not allowed
   fields_refuse : (f : Fault) → NotAllowed settings s f → bk_fields true s (settings.header + 2) ≡ faulty f
@@ -293,7 +293,7 @@ ask_narrowed settings s room = (
 pub answer_narrowed : AnswerNarrowed
 unfolding replying answer_by bk_answer
 answer_narrowed settings g h s block enciphered room = (
-  opened_narrowed settings s 65 room (λ r code. commanded (restricted_to settings r) g h s block enciphered code) (commanded-narrowed settings s g h block enciphered),
+  opened_narrowed settings s 65 room (λ r code. commanded (restricted_to settings r) g h s block enciphered code) (commanded_narrowed settings s g h block enciphered),
   λ f roomy n. rw (le-leb 65 room roomy, n.framed, n.coded, fields_refuse settings s f n) refl,
 )
 
@@ -304,11 +304,11 @@ response_narrowed settings g h s block enciphered room = (
   λ f roomy n. rw (le-leb 65 room roomy, n.framed, n.coded, fields_refuse settings s f n) (ap (λ (q : Fault). responding settings.header s (refused q.refusal)) n.fault),
 )
   where
-    heard-narrowed : (narrow wide : Ruling (List ℕ)) → Narrowed (NotAllowed settings s) narrow wide
+    heard_narrowed : (narrow wide : Ruling (List ℕ)) → Narrowed (NotAllowed settings s) narrow wide
         → (responding settings.header s (heard narrow) ≡ responding settings.header s (heard wide))
         ⊎ ((f : Fault) × NotAllowed settings s f × (responding settings.header s (heard narrow) ≡ responding settings.header s (refused NotHere69)))
-    heard-narrowed narrow wide (inl e) = inl (ap (λ (o : Ruling (List ℕ)). responding settings.header s (heard o)) e)
-    heard-narrowed narrow wide (inr (f, n, e)) =
+    heard_narrowed narrow wide (inl e) = inl (ap (λ (o : Ruling (List ℕ)). responding settings.header s (heard o)) e)
+    heard_narrowed narrow wide (inr (f, n, e)) =
         inr (f, n, ap (λ (o : Ruling (List ℕ)). responding settings.header s (heard o)) e ∙ ap (λ (q : Fault). responding settings.header s (refused q.refusal)) n.fault)
 
     by : (roomy framed : Bool) → is_framed settings.header s ≡ framed
@@ -317,6 +317,6 @@ response_narrowed settings g h s block enciphered room = (
         ⊎ ((f : Fault) × NotAllowed settings s f
         × (silently (and_then (and_then (unless Room901 roomy room) (λ _. unless Frame902 framed settings.header)) (λ code. done (responding settings.header s (heard (commanded (restricted_to settings true) g h s block enciphered code)))))
         ≡ responding settings.header s (refused NotHere69)))
-    by true true e = heard-narrowed _ _ (commanded-narrowed settings s g h block enciphered e)
+    by true true e = heard_narrowed _ _ (commanded_narrowed settings s g h block enciphered e)
     by true false e = inl refl
     by false framed e = inl refl

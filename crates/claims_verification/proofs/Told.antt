@@ -29,14 +29,14 @@ use Rattle.claims_alike.specs.Alike.{Layout, fields}
 use Rattle.claims_alike.proofs.Alike.{read_alike}
 use Rattle.claims_commands.specs.Runs.{Verifying, code_for, key_for}
 use Rattle.claims_commands.proofs.Shapes.{relaid}
-use Rattle.claims_commands.proofs.Told.{shape-alike}
+use Rattle.claims_commands.proofs.Told.{shape_alike}
 use Rattle.claims_commands.proofs.Bytes.{bytes_settle}
 use Rattle.claims_commands.proofs.PinsRead.{returns_agree}
 use Rattle.claims_commands.proofs.VerifyLayout.{verify_layout}
 use Rattle.claims_commands.proofs.Verifying.{verify_shape}
 use Rattle.claims_verification.specs.Calls.{Call, answer, shown_in, ReachesVerdict}
 use Rattle.claims_verification.specs.Told.{VerifyReadAlike, VerifyAnswerAlike, defined, Verifies, SameVerdict, Alike, SameDigitsCovered, VerdictsTellNoMore, VerdictsTellOneAnswer, ReturnsTellVerdicts}
-use Rattle.claims_verification.proofs.Verdicts.{finish_judged, tested, alike-exactly, counted-exactly, reaches_verdict_exactly}
+use Rattle.claims_verification.proofs.Verdicts.{finish_judged, tested, alike_exactly, counted_exactly, reaches_verdict_exactly}
 
 -- ---- two verdicts
 
@@ -78,11 +78,11 @@ module _ (w : Verifying) (settings : Settings) (a : Call) (r : ReachesVerdict w 
 
   finish_test : verify_finish settings.variable a.command v r.finds.reaches.rows ≡ verdict test
   finish_test =
-      let counted = (counted-exactly w settings a r.finds r.m r.covered).1 r.digits in
+      let counted = (counted_exactly w settings a r.finds r.m r.covered).1 r.digits in
       finish_judged w settings a r.finds ∙ tested w settings a r.finds r.m r.covered ∙ rw counted
 
   test_exactly : (test ≡ true) ↔ Verifies r
-  test_exactly = alike-exactly w settings a r.finds r.m r.covered
+  test_exactly = alike_exactly w settings a r.finds r.m r.covered
 
 -- ---- how they lie around the PIN block
 
@@ -113,7 +113,7 @@ verify_read_alike w s t at v v' past past' e e' alike = (read_alike 16 Keys Seal
 
 pub verify_answer_alike : VerifyAnswerAlike
 verify_answer_alike w settings a b r r' alike =
-    shape-alike (verify_shape w settings) (verify_layout (key_for w)) (laid (key_for w)) (λ v s. refl) (λ (ds : List ℕ). ds ≡ []) (λ x y p q _. p ∙ sym q)
+    shape_alike (verify_shape w settings) (verify_layout (key_for w)) (laid (key_for w)) (λ v s. refl) (λ (ds : List ℕ). ds ≡ []) (λ x y p q _. p ∙ sym q)
     a.pin_key_good a.pvk_good b.pin_key_good b.pvk_good a.room b.room a.command b.command a.block b.block a.enciphered b.enciphered
     r r' alike (finish_nothing settings.variable a.command r.fields r.rows) (finish_nothing settings.variable b.command r'.fields r'.rows)
 

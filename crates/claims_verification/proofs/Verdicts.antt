@@ -38,7 +38,7 @@ use Rattle.responses.specs.Responses.{responding}
 use Rattle.offsetting.specs.Offsetting.{part}
 use Rattle.offsetfield.proofs.Laws.{offset_held}
 use Rattle.offsetfield.proofs.Laws as field
-use Rattle.pairing.proofs.Laws.{pair-within}
+use Rattle.pairing.proofs.Laws.{pair_within}
 use Rattle.verifyfields.specs.VerifyFields.{offset_in}
 use Rattle.verifyfields.specs.declared.Verification.{Verification}
 use Rattle.verifyfields.proofs.Places.{placed}
@@ -53,7 +53,7 @@ use Rattle.claims_commands.specs.Runs.{Verifying, terminal, zone, code_for, key_
 use Rattle.claims_commands.proofs.Fields.{listed_passes, In, shared_numbers, verify_fields_give}
 use Rattle.claims_commands.proofs.Shapes.{reached, pair_only}
 use Rattle.claims_commands.proofs.Told.{text_once}
-use Rattle.claims_commands.proofs.PinsRead.{Other, other, Pinned, finds-exactly}
+use Rattle.claims_commands.proofs.PinsRead.{Other, other, Pinned, finds_exactly}
 use Rattle.claims_commands.proofs.Verifying.{verify_shape, parts, verdict_only}
 use Rattle.claims_verification.specs.Calls.{Call, answer, Finds, shown_in, ReachesVerdict}
 use Rattle.claims_verification.specs.Verdicts.{Judges, CommandVerdictExactly, LongCheck81, VariableVerdict, VerifyReadsExactly, ReachesVerdictExactly, response_for, saying, verified, VerdictBytes, RestrictedTouchesNot}
@@ -142,7 +142,7 @@ module _ (w : Verifying) (settings : Settings) (a : Call) (r : Finds w settings 
       let rows = r.reaches.rows in
       let sixteen = boxed_sixteen (length a.command) a.pin_key_good a.pvk_good a.block a.enciphered rows r.reaches.boxed in
       let inside = (placed (key_for w) a.command (settings.header + 2) v r.reaches.past r.reaches.read).offsetting in
-      (pair-within a.command v.offsetting inside v.sealed rows sixteen.0 sixteen.1 r.found r.paired).4
+      (pair_within a.command v.offsetting inside v.sealed rows sixteen.0 sixteen.1 r.found r.paired).4
 
   -- where the check length is longer than the PIN
   untested : (q : Refusal) → covers settings.variable v.offsetting.check (length r.found.0) ≡ refused q → comes ≡ refused q
@@ -153,29 +153,29 @@ module _ (w : Verifying) (settings : Settings) (a : Call) (r : Finds w settings 
     tested = rw c
 
     -- the text of the offset defined is that of its digits alone
-    made-shown : shown ≡ offset_text (made m) → os ≡ made m
-    made-shown e = text_once os (made m) (digits_below (part a.command v.offset v.digits) held.digits) (reduced_below (covered m r.found.0 r.found.1)) (text ∙ e)
+    made_shown : shown ≡ offset_text (made m) → os ≡ made m
+    made_shown e = text_once os (made m) (digits_below (part a.command v.offset v.digits) held.digits) (reduced_below (covered m r.found.0 r.found.1)) (text ∙ e)
 
-    pub alike-exactly : (same os (made m) ≡ true) ↔ (shown ≡ offset_text (made m))
-    alike-exactly = (λ e. sym text ∙ ap offset_text (same_true os (made m) e), λ e. ap (same os) (sym (made-shown e)) ∙ same_refl os)
+    pub alike_exactly : (same os (made m) ≡ true) ↔ (shown ≡ offset_text (made m))
+    alike_exactly = (λ e. sym text ∙ ap offset_text (same_true os (made m) e), λ e. ap (same os) (sym (made_shown e)) ∙ same_refl os)
 
-    pub counted-exactly : (eqb (length os) m ≡ true) ↔ (digit_end shown ≡ m)
-    counted-exactly = (λ e. sym many ∙ eqb-true (length os) m e, λ e. eq-eqb (length os) m (many ∙ e))
+    pub counted_exactly : (eqb (length os) m ≡ true) ↔ (digit_end shown ≡ m)
+    counted_exactly = (λ e. sym many ∙ eqb-true (length os) m e, λ e. eq-eqb (length os) m (many ∙ e))
 
-    judges-exactly : Judges m (answer settings a).number shown (made m)
-    judges-exactly =
-        judges m (answer settings a).number shown (made m) (eqb (length os) m) (same os (made m)) (judged_number ∙ ap numbered tested) counted-exactly alike-exactly
-        (λ e. sym many ∙ ap length (made-shown e) ∙ offset_many m r.found.0 r.found.1 (covers_within settings.variable v.offsetting.check (length r.found.0) m c) natural_long)
+    judges_exactly : Judges m (answer settings a).number shown (made m)
+    judges_exactly =
+        judges m (answer settings a).number shown (made m) (eqb (length os) m) (same os (made m)) (judged_number ∙ ap numbered tested) counted_exactly alike_exactly
+        (λ e. sym many ∙ ap length (made_shown e) ∙ offset_many m r.found.0 r.found.1 (covers_within settings.variable v.offsetting.check (length r.found.0) m c) natural_long)
 
 pub command_verdict_exactly : CommandVerdictExactly
-command_verdict_exactly = judges-exactly
+command_verdict_exactly = judges_exactly
 
 pub long_check_81 : LongCheck81
 long_check_81 w settings a r fixed long =
     judged_number w settings a r ∙ ap numbered (untested w settings a r Check81 (rw (fixed, lt-leb r.reaches.fields.offsetting.check (length r.found.0) long)))
 
 pub variable_verdict : VariableVerdict
-variable_verdict w settings a r variable = (judges-exactly w settings a r (length r.found.0) (rw variable)).0
+variable_verdict w settings a r variable = (judges_exactly w settings a r (length r.found.0) (rw variable)).0
 
 -- ---- how far a run gets
 
@@ -197,7 +197,7 @@ verify_pinned w settings = record {
 
 pub verify_reads_exactly : VerifyReadsExactly
 unfolding verify_pinned
-verify_reads_exactly w settings a coded = finds-exactly (verify_shape w settings) (verify_pinned w settings) a.pin_key_good a.pvk_good a.room a.command a.block a.enciphered coded
+verify_reads_exactly w settings a coded = finds_exactly (verify_shape w settings) (verify_pinned w settings) a.pin_key_good a.pvk_good a.room a.command a.block a.enciphered coded
 
 module _ (w : Verifying) (settings : Settings) (a : Call) where
   abbrev Two : ℕ → Type 0
@@ -215,7 +215,7 @@ module _ (w : Verifying) (settings : Settings) (a : Call) where
   compared_two : ReachesVerdict w settings a → Two (answer settings a).number
   compared_two q =
       let r = q.finds in
-      let shown = (counted-exactly w settings a r q.m q.covered).1 q.digits in
+      let shown = (counted_exactly w settings a r q.m q.covered).1 q.digits in
       subst Two (sym (judged_number w settings a r ∙ ap numbered (tested w settings a r q.m q.covered))) (rw shown (two q.m (same (os w settings a r) (made w settings a r q.m))))
 
   two_compared : (r : Finds w settings a) → Two (answer settings a).number → ReachesVerdict w settings a
@@ -224,7 +224,7 @@ module _ (w : Verifying) (settings : Settings) (a : Call) where
       by : (o : Outcome ℕ) → covers settings.variable r.reaches.fields.offsetting.check (length r.found.0) ≡ o → ReachesVerdict w settings a
       by (done m) c =
           let counted = two_counted m (eqb (length (os w settings a r)) m) (same (os w settings a r) (made w settings a r m)) (subst Two (judged_number w settings a r ∙ ap numbered (tested w settings a r m c)) e) in
-          record { finds = r; m = m; covered = c; digits = (counted-exactly w settings a r m c).0 counted }
+          record { finds = r; m = m; covered = c; digits = (counted_exactly w settings a r m c).0 counted }
       by (refused q) c =
           let is : q ≡ Check81 = covers_only (λ p. p ≡ Check81) settings.variable (λ _. refl) r.reaches.fields.offsetting.check (length r.found.0) q c in
           absurd (false≢true (subst Two (judged_number w settings a r ∙ ap numbered (untested w settings a r q c) ∙ ap number_of is) e))
@@ -292,16 +292,16 @@ verdict_bytes w settings a r = by (comes w settings a r) (judged w settings a r)
 -- ---- the settings
 
 module _ (settings : Settings) (restricted : Bool) (s : List ℕ) where
-  abbrev other-settings : Settings
-  other-settings = restricted_to settings restricted
+  abbrev other_settings : Settings
+  other_settings = restricted_to settings restricted
 
   -- behind the frame
-  ask_same : (w : Verifying) (at : ℕ) → ask_by (code_for w) other-settings s at ≡ ask_by (code_for w) settings s at
+  ask_same : (w : Verifying) (at : ℕ) → ask_by (code_for w) other_settings s at ≡ ask_by (code_for w) settings s at
   unfolding ask_by
   ask_same terminal at = refl
   ask_same zone at = refl
 
-  answer_same : (w : Verifying) (g h : Bool) (at : ℕ) (block enciphered : List ℕ) → answer_by (code_for w) other-settings g h s at block enciphered ≡ answer_by (code_for w) settings g h s at block enciphered
+  answer_same : (w : Verifying) (g h : Bool) (at : ℕ) (block enciphered : List ℕ) → answer_by (code_for w) other_settings g h s at block enciphered ≡ answer_by (code_for w) settings g h s at block enciphered
   unfolding answer_by
   answer_same terminal g h at block enciphered = refl
   answer_same zone g h at block enciphered = refl

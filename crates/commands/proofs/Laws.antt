@@ -67,8 +67,8 @@ unfolding extracting extract_by
 extracted_block settings s room = opened_block 16 room settings.header s _ (omega arith) (λ code bs h. by_code (code_of (drop code s)) (code + 2) bs h) where
   by_code : (code : Code) (at : ℕ) (bs : List ℕ) → extract_by code settings s at ≡ done bs → (ns : List ℕ) × Sixteen ns × (bs ≡ packs ns)
   by_code Bk at bs h = extracted_row settings s at bs h
-  by_code Da at bs h = verify.extracted-row terminal_key s at bs h
-  by_code Ea at bs h = verify.extracted-row zone_key s at bs h
+  by_code Da at bs h = verify.extracted_row terminal_key s at bs h
+  by_code Ea at bs h = verify.extracted_row zone_key s at bs h
   by_code Other at bs h = absurd (let z : ◌≡◌ {A = ℕ} 0 1 = cc in omega arith)
 
 -- ---- the answering call
@@ -79,8 +79,8 @@ pub answer_by_sound :
     → answer_by code settings g h s at block enciphered ≡ done d → Sound s d
 unfolding answer_by
 answer_by_sound Bk settings g h s at block enciphered d e = answer_sound settings g h s at block enciphered d e
-answer_by_sound Da settings g h s at block enciphered d e = verify.answer-sound terminal_key settings.variable g h s at block enciphered d e
-answer_by_sound Ea settings g h s at block enciphered d e = verify.answer-sound zone_key settings.variable g h s at block enciphered d e
+answer_by_sound Da settings g h s at block enciphered d e = verify.answer_sound terminal_key settings.variable g h s at block enciphered d e
+answer_by_sound Ea settings g h s at block enciphered d e = verify.answer_sound zone_key settings.variable g h s at block enciphered d e
 answer_by_sound Other settings g h s at block enciphered d e = absurd (let z : ◌≡◌ {A = ℕ} 0 1 = cc in omega arith)
 
 module _ (settings : Settings) (g h : Bool) (s block enciphered : List ℕ) (room : ℕ) where

@@ -55,10 +55,10 @@ pub trailer_33 : (cs : List ℕ) (v n : ℕ) → trailer cs ≡ done (v, n) → 
 unfolding trailer
 trailer_33 cs v n e = by_mark (marked 0x19 cs) e where
   short : (m : ℕ) → at_most 32 m ≤ 32
-  short m = by-test (leb m 32) refl where
-    by-test : (b : Bool) → leb m 32 ≡ b → cond b m 32 ≤ 32
-    by-test true h = leb-true m 32 h
-    by-test false h = omega arith
+  short m = by_test (leb m 32) refl where
+    by_test : (b : Bool) → leb m 32 ≡ b → cond b m 32 ≤ 32
+    by_test true h = leb-true m 32 h
+    by_test false h = omega arith
 
   by_mark : (there : Bool) → cond there (behind 1 (run Printable Field15 Field15 (at_most 32 (length (drop 1 cs))) (drop 1 cs))) (done (0, 0)) ≡ done (v, n) → n ≤ 33
   by_mark true h =

@@ -64,16 +64,16 @@ module _ (m n w : ℕ) (within-it : m ≤ n) where
       ∙ ap (λ (k : ℕ). get_or (row n w) (k - m + i) 0) (row_length n w)
 
 module _ (m n pin natural : ℕ) (h : Matched m n pin natural) where
-  abbrev pub pinDigit : ℕ → ℕ
-  pinDigit i = get_or (row n pin) (n - m + i) 0
+  abbrev pub digit_of_pin : ℕ → ℕ
+  digit_of_pin i = get_or (row n pin) (n - m + i) 0
 
-  abbrev pub naturalDigit : ℕ → ℕ
-  naturalDigit i = get_or (row n natural) (n - m + i) 0
+  abbrev pub digit_of_natural : ℕ → ℕ
+  digit_of_natural i = get_or (row n natural) (n - m + i) 0
 
   pub covered_length : length (covered m (row n pin) (row n natural)) ≡ m
   covered_length = covered_many m (row n pin) (row n natural) (rw (row_length n pin) h.within) (row_length n natural ∙ sym (row_length n pin))
 
-  pub covered_at : (i : ℕ) → i < m → get_or (covered m (row n pin) (row n natural)) i (pos 0) ≡ difference (pinDigit i) (naturalDigit i)
+  pub covered_at : (i : ℕ) → i < m → get_or (covered m (row n pin) (row n natural)) i (pos 0) ≡ difference (digit_of_pin i) (digit_of_natural i)
   covered_at i k =
       differences_at (last_of m (row n pin)) (last_of m (row n natural)) i (pos 0)
       (rw (last_length m n pin h.within) k) (rw (last_length m n natural h.within) k)
@@ -82,13 +82,13 @@ module _ (m n pin natural : ℕ) (h : Matched m n pin natural) where
   pub offset_length : length (offset_of m (row n pin) (row n natural)) ≡ m
   offset_length = length-map (covered m (row n pin) (row n natural)) modulo_ten ∙ covered_length
 
-  pub pin_digit : (i : ℕ) → pinDigit i ≤ 9
+  pub pin_digit : (i : ℕ) → digit_of_pin i ≤ 9
   pin_digit i = le_of_suc-le-suc (below_at 10 (row n pin) (n - m + i) (lit< tt) (every_below 9 (row n pin) h.digits))
 
-  pub natural_digit : (i : ℕ) → naturalDigit i ≤ 9
+  pub natural_digit : (i : ℕ) → digit_of_natural i ≤ 9
   natural_digit i = le_of_suc-le-suc (below_at 10 (row n natural) (n - m + i) (lit< tt) (every_below 9 (row n natural) h.naturals))
 
-  pub offset_at : (i : ℕ) → i < m → get_or (offset_of m (row n pin) (row n natural)) i 0 ≡ modulo_ten (difference (pinDigit i) (naturalDigit i))
+  pub offset_at : (i : ℕ) → i < m → get_or (offset_of m (row n pin) (row n natural)) i 0 ≡ modulo_ten (difference (digit_of_pin i) (digit_of_natural i))
   offset_at i k = mapped (covered m (row n pin) (row n natural)) i (rw covered_length k) ∙ ap modulo_ten (covered_at i k)
     where
       mapped : (zs : List ℤ) (j : ℕ) → j < length zs → get_or (map modulo_ten zs) j 0 ≡ modulo_ten (get_or zs j (pos 0))
@@ -100,8 +100,8 @@ module _ (m n pin natural : ℕ) (h : Matched m n pin natural) where
   offset_below = reduced_below (covered m (row n pin) (row n natural))
 
   -- the nibbles that the code takes are those digits
-  pub pin_nibble : (i : ℕ) → i < m → get_or (row 16 pin) (n - m + i) 0 ≡ pinDigit i
+  pub pin_nibble : (i : ℕ) → i < m → get_or (row 16 pin) (n - m + i) 0 ≡ digit_of_pin i
   pin_nibble i k = row_at_less n pin (n - m + i) (omega (arith, h.within)) (omega (arith, h.short))
 
-  pub natural_nibble : (i : ℕ) → i < m → get_or (row 16 natural) (n - m + i) 0 ≡ naturalDigit i
+  pub natural_nibble : (i : ℕ) → i < m → get_or (row 16 natural) (n - m + i) 0 ≡ digit_of_natural i
   natural_nibble i k = row_at_less n natural (n - m + i) (omega (arith, h.within)) (omega (arith, h.short))

@@ -38,51 +38,51 @@ module _ (s : List ℕ) (at : ℕ) (for : Use) where
 
   module _ (v : ℕ) (rest : Cursor) (e : Got v rest ≡ value_from at (block_length (drop at s))) where
     -- its length is there
-    pub length-read : (block_length (drop at s) ≡ done (v, 5)) × (rest ≡ cursor_at (at + 5)) × (5 ≤ length s - at) × (16 ≤ v) × (v ≤ 512)
-    length-read =
+    pub length_read : (block_length (drop at s) ≡ done (v, 5)) × (rest ≡ cursor_at (at + 5)) × (5 ≤ length s - at) × (16 ≤ v) × (v ≤ 512)
+    length_read =
         let got = value_of_found at (block_length (drop at s)) v rest e in
         let f = length_found (drop at s) v got.0 got.1 in
         (got.1 ∙ ap (λ (m : ℕ). done (v, m)) f.1, got.2 ∙ ap (λ (m : ℕ). cursor_at (at + m)) f.1, rw length-drop at f.2, f.3, f.4)
 
     -- characters are missing, or not printable
-    pub block-torn : (q : Refusal) → Bad q ≡ value_from rest.at (run Printable Field15 Field15 (v - 5) (drop rest.at s)) → keyed.Bad Field15 ≡ keyed_from at (key_block for (drop at s))
+    pub block_torn : (q : Refusal) → Bad q ≡ value_from rest.at (run Printable Field15 Field15 (v - 5) (drop rest.at s)) → keyed.Bad Field15 ≡ keyed_from at (key_block for (drop at s))
     unfolding key_block
-    block-torn q a =
+    block_torn q a =
         let text = run Printable Field15 Field15 (v - 5) (drop (at + 5) s) in
-        let bad : text ≡ refused q = value_of_bad (at + 5) text q (rw length-read.1 at a) in
-        rw (length-read.0, drop-drop 5 at s, bad, run_refuses Printable Field15 (v - 5) (drop (at + 5) s) q bad)
+        let bad : text ≡ refused q = value_of_bad (at + 5) text q (rw length_read.1 at a) in
+        rw (length_read.0, drop-drop 5 at s, bad, run_refuses Printable Field15 (v - 5) (drop (at + 5) s) q bad)
 
     module _ (w : ℕ) (next : Cursor) (a : Got w next ≡ value_from rest.at (run Printable Field15 Field15 (v - 5) (drop rest.at s))) where
       -- its characters are there
-      pub text-read : (run Printable Field15 Field15 (v - 5) (drop (at + 5) s) ≡ done (w, v - 5)) × (next ≡ cursor_at (at + (5 + (v - 5)))) × (at + 16 ≤ length s)
-      text-read =
+      pub text_read : (run Printable Field15 Field15 (v - 5) (drop (at + 5) s) ≡ done (w, v - 5)) × (next ≡ cursor_at (at + (5 + (v - 5)))) × (at + 16 ≤ length s)
+      text_read =
           let text = run Printable Field15 Field15 (v - 5) (drop (at + 5) s) in
-          let got = value_of_found (at + 5) text w next (rw length-read.1 at a) in
+          let got = value_of_found (at + 5) text w next (rw length_read.1 at a) in
           let f = run_found Printable Field15 Field15 (v - 5) (drop (at + 5) s) w got.0 got.1 in
-          let l = length-read in
+          let l = length_read in
           let n : got.0 ≡ v - 5 = f.1 in
           (got.1 ∙ ap (λ (m : ℕ). done (w, m)) n, got.2 ∙ ap cursor_at (add_assoc at 5 got.0 ∙ ap (λ (m : ℕ). at + (5 + m)) n), omega (arith, length-drop (at + 5) s))
 
       -- the use is not permitted
-      pub block-forbidden : permits for (drop at s) ≡ false → keyed.Bad Use29 ≡ keyed_from at (key_block for (drop at s))
+      pub block_forbidden : permits for (drop at s) ≡ false → keyed.Bad Use29 ≡ keyed_from at (key_block for (drop at s))
       unfolding key_block
-      block-forbidden h = rw (length-read.0, drop-drop 5 at s, text-read.0, h)
+      block_forbidden h = rw (length_read.0, drop-drop 5 at s, text_read.0, h)
 
       -- its LMK id is not there
-      pub block-unnamed : permits for (drop at s) ≡ true → (q : Refusal) → Bad q ≡ value_from (at + 14) (number 0 9 Field15 (drop (at + 14) s))
+      pub block_unnamed : permits for (drop at s) ≡ true → (q : Refusal) → Bad q ≡ value_from (at + 14) (number 0 9 Field15 (drop (at + 14) s))
           → keyed.Bad Field15 ≡ keyed_from at (key_block for (drop at s))
       unfolding key_block
-      block-unnamed h q b =
+      block_unnamed h q b =
           let bad = value_of_bad (at + 14) (number 0 9 Field15 (drop (at + 14) s)) q b in
-          rw (length-read.0, drop-drop 5 at s, text-read.0, h, drop-drop 14 at s, bad, number_refuses 0 9 Field15 (drop (at + 14) s) q bad)
+          rw (length_read.0, drop-drop 5 at s, text_read.0, h, drop-drop 14 at s, bad, number_refuses 0 9 Field15 (drop (at + 14) s) q bad)
 
       -- the key block is whole
-      pub block-whole : permits for (drop at s) ≡ true → (id : ℕ) (c : Cursor) → Got id c ≡ value_from (at + 14) (number 0 9 Field15 (drop (at + 14) s))
+      pub block_whole : permits for (drop at s) ≡ true → (id : ℕ) (c : Cursor) → Got id c ≡ value_from (at + 14) (number 0 9 Field15 (drop (at + 14) s))
           → keyed.Got (Id id) next ≡ keyed_from at (key_block for (drop at s))
       unfolding key_block
-      block-whole h id c b =
+      block_whole h id c b =
           let got = value_of_found (at + 14) (number 0 9 Field15 (drop (at + 14) s)) id c b in
-          rw (length-read.0, drop-drop 5 at s, text-read.0, h, drop-drop 14 at s, got.1) (ap (keyed.Got (Id id)) text-read.1)
+          rw (length_read.0, drop-drop 5 at s, text_read.0, h, drop-drop 14 at s, got.1) (ap (keyed.Got (Id id)) text_read.1)
 
 -- ---- what a key block that was found tells
 

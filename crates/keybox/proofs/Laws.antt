@@ -105,14 +105,14 @@ module _ (end : ℕ) (g h : Bool) (block enciphered : List ℕ) where
 
   module _ (b : Boxed) (held : sliced.Rows b ≡ sliced_of (slices block enciphered)) where
     -- a parity is wrong
-    pub box-parity : (q : Refusal) → parity.Bad q ≡ parity_of (parities g h) → boxed end g h block enciphered ≡ refused (record { refusal = q; field = 0; place = 0 })
+    pub box_parity : (q : Refusal) → parity.Bad q ≡ parity_of (parities g h) → boxed end g h block enciphered ≡ refused (record { refusal = q; field = 0; place = 0 })
     unfolding boxed
-    box-parity q e = rw ((sliced_rows (slices block enciphered) b held).1, parity_bad (parities g h) q e)
+    box_parity q e = rw ((sliced_rows (slices block enciphered) b held).1, parity_bad (parities g h) q e)
 
     -- nothing is
-    pub box-good : parity.Good ≡ parity_of (parities g h) → Got b ≡ box_read (boxed end g h block enciphered)
+    pub box_good : parity.Good ≡ parity_of (parities g h) → Got b ≡ box_read (boxed end g h block enciphered)
     unfolding boxed
-    box-good e = let r = sliced_rows (slices block enciphered) b held in rw (r.1, parity_good (parities g h) e) (ap Got r.2)
+    box_good e = let r = sliced_rows (slices block enciphered) b held in rw (r.1, parity_good (parities g h) e) (ap Got r.2)
 
 module _ (end : ℕ) (g h : Bool) (block enciphered : List ℕ) (small : Below 256 block) (little : Below 256 enciphered) where
   -- the words of the rows that were answered hold them

@@ -39,19 +39,19 @@ module _ (cs : List ℕ) where
 
   module _ (r : ℕ × ℕ) (e : run Digit Field15 Key26 5 cs ≡ done r) where
     -- a version above 1
-    pub length-version : 1 < value_of (get_or cs 0 0) → block_length cs ≡ refused Key26
+    pub length_version : 1 < value_of (get_or cs 0 0) → block_length cs ≡ refused Key26
     unfolding block_length
-    length-version h = rw (e, lt-leb (value_of (get_or cs 0 0)) 1 h)
+    length_version h = rw (e, lt-leb (value_of (get_or cs 0 0)) 1 h)
 
     -- too short
-    pub length-short : value_of (get_or cs 0 0) ≤ 1 → said_length cs < 16 → block_length cs ≡ refused Key26
+    pub length_short : value_of (get_or cs 0 0) ≤ 1 → said_length cs < 16 → block_length cs ≡ refused Key26
     unfolding block_length
-    length-short v h = rw (e, le-leb (value_of (get_or cs 0 0)) 1 v, lt-leb 16 (said_length cs) h)
+    length_short v h = rw (e, le-leb (value_of (get_or cs 0 0)) 1 v, lt-leb 16 (said_length cs) h)
 
     -- too long
-    pub length-long : value_of (get_or cs 0 0) ≤ 1 → 16 ≤ said_length cs → 512 < said_length cs → block_length cs ≡ refused Key26
+    pub length_long : value_of (get_or cs 0 0) ≤ 1 → 16 ≤ said_length cs → 512 < said_length cs → block_length cs ≡ refused Key26
     unfolding block_length
-    length-long v l h = rw (e, le-leb (value_of (get_or cs 0 0)) 1 v, le-leb 16 (said_length cs) l, lt-leb (said_length cs) 512 h)
+    length_long v l h = rw (e, le-leb (value_of (get_or cs 0 0)) 1 v, le-leb 16 (said_length cs) l, lt-leb (said_length cs) 512 h)
 
     -- the length is there
     pub length_whole : value_of (get_or cs 0 0) ≤ 1 → 16 ≤ said_length cs → said_length cs ≤ 512 → block_length cs ≡ done (said_length cs, 5)

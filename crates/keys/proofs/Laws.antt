@@ -78,9 +78,9 @@ module _ (s : List ℕ) (at : ℕ) where
 
   module _ (letters : Letters) (for : Use) where
     -- no letter
-    pub key-missing : length s ≤ at → key letters for (drop at s) ≡ refused Field15
+    pub key_missing : length s ≤ at → key letters for (drop at s) ≡ refused Field15
     unfolding key
-    key-missing h = rw (length-drop at s, lt-leb 1 (length s - at) (omega arith))
+    key_missing h = rw (length-drop at s, lt-leb 1 (length s - at) (omega arith))
 
     module _ (room : at < length s) (o : Keyed) where
       -- some letter
@@ -99,24 +99,24 @@ module _ (s : List ℕ) (at : ℕ) where
       after reader a = keyed_marked s at reader (cursor_at (at + 1)) o refl a
 
       -- U and 32 hex characters
-      pub double-there : get_or s at 0 ≡ letter_u → o ≡ keyed_from (at + 1) (admitted letters.double (hex_key 32 (drop (at + 1) s))) → o ≡ keyed_from at (key letters for (drop at s))
+      pub double_there : get_or s at 0 ≡ letter_u → o ≡ keyed_from (at + 1) (admitted letters.double (hex_key 32 (drop (at + 1) s))) → o ≡ keyed_from at (key letters for (drop at s))
       unfolding lettered
-      double-there e a = rw (some, is letter_u e) (after (λ cs. admitted letters.double (hex_key 32 cs)) a)
+      double_there e a = rw (some, is letter_u e) (after (λ cs. admitted letters.double (hex_key 32 cs)) a)
 
       -- T and 48
-      pub triple-there : get_or s at 0 ≡ letter_t → o ≡ keyed_from (at + 1) (admitted letters.triple (hex_key 48 (drop (at + 1) s))) → o ≡ keyed_from at (key letters for (drop at s))
+      pub triple_there : get_or s at 0 ≡ letter_t → o ≡ keyed_from (at + 1) (admitted letters.triple (hex_key 48 (drop (at + 1) s))) → o ≡ keyed_from at (key letters for (drop at s))
       unfolding lettered
-      triple-there e a = rw (some, other letter_u (λ f. omega arith), is letter_t e) (after (λ cs. admitted letters.triple (hex_key 48 cs)) a)
+      triple_there e a = rw (some, other letter_u (λ f. omega arith), is letter_t e) (after (λ cs. admitted letters.triple (hex_key 48 cs)) a)
 
       -- S and a key block
-      pub block-there : get_or s at 0 ≡ letter_s → o ≡ keyed_from (at + 1) (admitted letters.block (key_block for (drop (at + 1) s))) → o ≡ keyed_from at (key letters for (drop at s))
+      pub block_there : get_or s at 0 ≡ letter_s → o ≡ keyed_from (at + 1) (admitted letters.block (key_block for (drop (at + 1) s))) → o ≡ keyed_from at (key letters for (drop at s))
       unfolding lettered
-      block-there e a =
+      block_there e a =
           rw (some, other letter_u (λ f. omega arith), other letter_t (λ f. omega arith), is letter_s e) (after (λ cs. admitted letters.block (key_block for cs)) a)
 
       -- none of these, and perhaps a bare key
-      pub bare-there : (bare : Bool) → (get_or s at 0 ≡ letter_u → ⊥) → (get_or s at 0 ≡ letter_t → ⊥) → (get_or s at 0 ≡ letter_s → ⊥)
+      pub bare_there : (bare : Bool) → (get_or s at 0 ≡ letter_u → ⊥) → (get_or s at 0 ≡ letter_t → ⊥) → (get_or s at 0 ≡ letter_s → ⊥)
           → bare ≡ (letters.bare && admits CapitalHex (get_or s at 0)) → o ≡ keyed_from at (admitted bare (hex_key 32 (drop at s))) → o ≡ keyed_from at (key letters for (drop at s))
       unfolding lettered
-      bare-there bare u t b e a =
+      bare_there bare u t b e a =
           rw (some, other letter_u u, other letter_t t, other letter_s b, get_or-drop at s 0 0, add-zero at, ← e) a

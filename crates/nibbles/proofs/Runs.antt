@@ -6,7 +6,7 @@ use native.Mathlib.Omega.{arith}
 use native.Mathlib.Numerals.{add-one}
 use mathlib.Core.Path.{◌≡◌, refl, sym, ap, ◌∙◌}
 use mathlib.Core.List.{List, [], ◌∷◌}
-use mathlib.Core.Bool.{Bool, true, false, ◌&&◌, cond, and_false}
+use mathlib.Core.Bool.{Bool, true, false, ◌&&◌, cond, and-false}
 use lib.ListN.{length, get_or, take, drop}
 use lib.Seq.{drop-cons, slice, slice-cons, slice_empty, length-slice, drop-length}
 use lib.Dec.{leb, eqb, eqb-suc-suc, eqb-zero-suc}
@@ -18,7 +18,7 @@ pub under : (low high n : ℕ) → n < low → within low high n ≡ false
 under low high n h = rw (lt-leb low n h)
 
 pub over : (low high n : ℕ) → high < n → within low high n ≡ false
-over low high n h = rw (lt-leb n high h) (and_false (leb low n))
+over low high n h = rw (lt-leb n high h) (and-false (leb low n))
 
 pub inside : (low high n : ℕ) → low ≤ n → n ≤ high → within low high n ≡ true
 inside low high n h k = rw (le-leb low n h) (le-leb n high k)
@@ -86,7 +86,7 @@ pub every_at : (p : ℕ → Bool) (xs : List ℕ) (i : ℕ) → i < length xs �
 unfolding every
 every_at p [] i h e = absurd (not-suc-le-zero h)
 every_at p (x ∷ xs) zero h e = rw e
-every_at p (x ∷ xs) (suc i) h e = rw (every_at p xs i (le_of_suc-le-suc h) e) (and_false (p x))
+every_at p (x ∷ xs) (suc i) h e = rw (every_at p xs i (le_of_suc-le-suc h) e) (and-false (p x))
 
 -- one more in front
 pub every_next : (p : ℕ → Bool) (xs : List ℕ) (i : ℕ) → 0 < i → i ≤ length xs → every p (drop i xs) ≡ true → p (get_or xs (i - 1) 0) ≡ true → every p (drop (i - 1) xs) ≡ true

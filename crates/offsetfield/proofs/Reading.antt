@@ -33,16 +33,16 @@ module _ (s : List ℕ) (at : ℕ) where
 
   module _ (h : 12 ≤ length s - at) where
     -- they are no offset
-    pub offset-wrong : (q : Refusal) → reading.Bad q ≡ reading_of (offset_presented lent) → Bad Field15 ≡ value_from at (offset_field (drop at s))
+    pub offset_wrong : (q : Refusal) → reading.Bad q ≡ reading_of (offset_presented lent) → Bad Field15 ≡ value_from at (offset_field (drop at s))
     unfolding offset_field
-    offset-wrong q e =
+    offset_wrong q e =
         let bad = ap offset_presented part ∙ reading_bad (offset_presented lent) q e in
         rw (le-leb 12 (length (drop at s)) (omega (arith, length-drop at s)), (failed Field15 q _ _ bad).1)
 
     -- they are one
-    pub offset-whole : (p : Pin) → reading.Got p ≡ reading_of (offset_presented lent) → Got p.length (cursor_at (at + 12)) ≡ value_from at (offset_field (drop at s))
+    pub offset_whole : (p : Pin) → reading.Got p ≡ reading_of (offset_presented lent) → Got p.length (cursor_at (at + 12)) ≡ value_from at (offset_field (drop at s))
     unfolding offset_field
-    offset-whole p e =
+    offset_whole p e =
         let g = reading_got (offset_presented lent) p e in
         let found = ap offset_presented part ∙ g.1 in
         rw (le-leb 12 (length (drop at s)) (omega (arith, length-drop at s)), found) (ap (λ (x : Pin). Got x.length (cursor_at (at + 12))) g.2)

@@ -117,10 +117,10 @@ module _ (f : Format) (ts : List ℕ) (g : List ℕ × List ℕ × List ℕ) (ns
       })
 
   -- the same in the words of the definitions
-  pub with-natural-fit :
+  pub with_natural_fit :
       every digit ts ≡ true → (p : List ℕ × List ℕ) → pin_with_natural f ts g ≡ done p
       → (4 ≤ length p.0) × (length p.0 ≤ 12) × (every digit p.0 ≡ true) × (every digit p.1 ≡ true) × (length p.1 ≡ length p.0)
-  with-natural-fit table p e =
+  with_natural_fit table p e =
       let a = natural_alike (every_below 9 ts table) p e in
       (a.pin.long, a.pin.short, below_every 9 p.0 a.pin.digits, below_every 9 p.1 a.natural, a.long)
 
@@ -176,17 +176,17 @@ module _ (variable : Bool) (check room : ℕ) where
       (λ _. through (pin_handed pin) _ (offset_for variable check) _
       (λ ps. through (natural_handed (length ps) natural) _ (offset_for variable check) _ (λ ns. refl)))))
 
-  abbrev pub differencesFor : List ℕ × List ℕ → Outcome (List ℤ)
-  differencesFor p = and_then (covers variable check (length p.0)) (λ m. done (covered m p.0 p.1))
+  abbrev pub differences_for : List ℕ × List ℕ → Outcome (List ℤ)
+  differences_for p = and_then (covers variable check (length p.0)) (λ m. done (covered m p.0 p.1))
 
   pub differences_parts : (pin natural : List ℕ)
-      → differences_of variable check pin natural room ≡ and_then (unless Room901 (leb 12 room) room) (λ _. and_then (digits_given check pin natural) differencesFor)
+      → differences_of variable check pin natural room ≡ and_then (unless Room901 (leb 12 room) room) (λ _. and_then (digits_given check pin natural) differences_for)
   unfolding differences_of digits_given
   differences_parts pin natural =
       sym (then_alike (unless Room901 (leb 12 room) room) _ _
-      (λ _. through (check_length check) _ differencesFor _
-      (λ _. through (pin_handed pin) _ differencesFor _
-      (λ ps. through (natural_handed (length ps) natural) _ differencesFor _ (λ ns. refl)))))
+      (λ _. through (check_length check) _ differences_for _
+      (λ _. through (pin_handed pin) _ differences_for _
+      (λ ps. through (natural_handed (length ps) natural) _ differences_for _ (λ ns. refl)))))
 
 -- ---- how many digits are covered
 
@@ -273,10 +273,10 @@ module _ (code check : ℕ) (block account table enciphered : List ℕ) where
       natural_alike f.0 t.0 g l.ns.long l.digits.0 l.es.long (subst (Below 10) tp.1 (digits_below table tp.0)) p t.2
 
   -- words that were given hold them, and why none were
-  pub given-fit :
+  pub given_fit :
       Below 256 block → Below 256 enciphered → (r : Rows) → taken.Of r ≡ given_of (given code check block account table enciphered)
       → (g : List ℕ × List ℕ × List ℕ) × (given code check block account table enciphered ≡ done g) × Laid table g × (r.account < 16 ^ 12) × (rows_in r ≡ g)
-  given-fit b c r e =
+  given_fit b c r e =
       let g = given_of_lem (given code check block account table enciphered) r e in
       let laid = given_laid b c g.0 g.1 in
       (g.0, g.1, laid, subst (λ (x : Rows). x.account < 16 ^ 12) (sym g.2) (laid_account g.0 laid), ap rows_in g.2 ∙ laid_back g.0 laid)
@@ -286,19 +286,19 @@ module _ (code check : ℕ) (block account table enciphered : List ℕ) where
 
   -- the PIN and natural PIN of such words, and why there are none
   module _ (b : Below 256 block) (c : Below 256 enciphered) (r : Rows) (e : taken.Of r ≡ given_of (given code check block account table enciphered)) where
-    pub given-compared :
+    pub given_compared :
         (x : Compared) → comparison.Of x ≡ comparison_of (pin_and_natural code table (rows_in r))
         → (g : List ℕ × List ℕ × List ℕ) × (given code check block account table enciphered ≡ done g) × (p : List ℕ × List ℕ) × (pin_and_natural code table g ≡ done p) × Fit x × (pair_in x ≡ p)
-    given-compared x h =
-        let g = given-fit b c r e in
+    given_compared x h =
+        let g = given_fit b c r e in
         let p = comparison_fit (pin_and_natural code table g.0) (pair_alike g.0 g.2) x (subst (λ (l : List ℕ × List ℕ × List ℕ). comparison.Of x ≡ comparison_of (pin_and_natural code table l)) g.4 h) in
         (g.0, g.1, p.0, p.1, p.2, p.3)
 
-    pub given-incomparable :
+    pub given_incomparable :
         (q : Refusal) → comparison.Bad q ≡ comparison_of (pin_and_natural code table (rows_in r))
         → (g : List ℕ × List ℕ × List ℕ) × (given code check block account table enciphered ≡ done g) × (pin_and_natural code table g ≡ refused q)
-    given-incomparable q h =
-        let g = given-fit b c r e in
+    given_incomparable q h =
+        let g = given_fit b c r e in
         (g.0, g.1, subst (λ (l : List ℕ × List ℕ × List ℕ). pin_and_natural code table l ≡ refused q) g.4 (comparison_bad (pin_and_natural code table (rows_in r)) q h))
 
 -- ---- an outcome that is an offset, as the answer that is written
@@ -355,12 +355,12 @@ module _ (variable : Bool) (check : ℕ) (pin natural : List ℕ) (room : ℕ) w
   pub differences_bad : leb 12 room ≡ true → (q : Refusal) → digits_given check pin natural ≡ refused q → differences_of variable check pin natural room ≡ refused q
   differences_bad e q d = rw (differences_parts variable check room pin natural, e, d)
 
-  pub differences-long :
+  pub differences_long :
       leb 12 room ≡ true → (p : List ℕ × List ℕ) → digits_given check pin natural ≡ done p → covers variable check (length p.0) ≡ refused Check81
       → differences_of variable check pin natural room ≡ refused Check81
-  differences-long e p d k = rw (differences_parts variable check room pin natural, e, d, k)
+  differences_long e p d k = rw (differences_parts variable check room pin natural, e, d, k)
 
-  pub differences-made :
+  pub differences_made :
       leb 12 room ≡ true → (p : List ℕ × List ℕ) → digits_given check pin natural ≡ done p → (m : ℕ) → covers variable check (length p.0) ≡ done m
       → differences_of variable check pin natural room ≡ done (covered m p.0 p.1)
-  differences-made e p d m k = rw (differences_parts variable check room pin natural, e, d, k)
+  differences_made e p d m k = rw (differences_parts variable check room pin natural, e, d, k)

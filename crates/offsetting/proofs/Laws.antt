@@ -59,9 +59,9 @@ offsetting_held first s at o next e =
     let f₂ = field_read (first + 1) (run Digit Field15 Field15 12) s (at + f₁.1) _ o next f₁.3 in
     let f₃ = field_read (first + 2) (run Digit Field15 Table25 16) s (at + f₁.1 + f₂.1) _ o next f₂.3 in
     let f₄ = field_read (first + 3) validation_field s (at + f₁.1 + f₂.1 + f₃.1) _ o next f₃.3 in
-    held-as (read_once f₄.3) (laid s at f₁.0 f₁.1 f₂.1 f₃.1 f₄.1 f₂.0 f₃.0 f₄.0 f₁.2 f₂.2 f₃.2 f₄.2) where
-      held-as : {x : Offsetting} {m : ℕ} → (x ≡ o) × (m ≡ next) → Held s x m → Held s o next
-      held-as {x} {m} (p, q) h = subst (λ (y : Offsetting). Held s y next) p (subst (λ (k : ℕ). Held s x k) q h)
+    held_as (read_once f₄.3) (laid s at f₁.0 f₁.1 f₂.1 f₃.1 f₄.1 f₂.0 f₃.0 f₄.0 f₁.2 f₂.2 f₃.2 f₄.2) where
+      held_as : {x : Offsetting} {m : ℕ} → (x ≡ o) × (m ≡ next) → Held s x m → Held s o next
+      held_as {x} {m} (p, q) h = subst (λ (y : Offsetting). Held s y next) p (subst (λ (k : ℕ). Held s x k) q h)
 
 -- ---- digits at a place
 

@@ -25,7 +25,7 @@ use Rattle.offsets.specs.Answers.{comparison_of, pair_in, rows_in, Fit}
 use Rattle.offsets.specs.declared.Rows.{Rows}
 use Rattle.offsets.specs.declared.Compared.{Compared}
 use Rattle.offsets.specs.declared.Comparison.TheVariants as comparison
-use Rattle.offsets.proofs.Laws.{with-natural-fit, with_natural_compared}
+use Rattle.offsets.proofs.Laws.{with_natural_fit, with_natural_compared}
 use Rattle.keybox.specs.declared.Boxed.{Boxed}
 use Rattle.offsetting.specs.Offsetting.{part, account_in, table_in, validation_in}
 use Rattle.sealed.specs.Sealed.{block_in}
@@ -94,11 +94,11 @@ module _ (s : List ℕ) (o : Offsetting) (placed : Placed s o) where
   table_digits = below_every 9 (table_in s o) (digits_below (part s o.table 16) placed.digits)
 
   -- those that the definition finds, of rows of sixteen
-  pub pair-within :
+  pub pair_within :
       (b : Sealed) (rows : List ℕ × List ℕ) → length rows.0 ≡ 16 → length rows.1 ≡ 16 → (p : List ℕ × List ℕ) → pair_at s b o rows ≡ done p
       → (4 ≤ length p.0) × (length p.0 ≤ 12) × (every digit p.0 ≡ true) × (every digit p.1 ≡ true) × (length p.1 ≡ length p.0)
-  pair-within b rows ns es =
-      with-natural-fit b.format (table_in s o) (rows.0, account_in s o, rows.1) ns (values_length s o.account 12 placed.account) es table_digits
+  pair_within b rows ns es =
+      with_natural_fit b.format (table_in s o) (rows.0, account_in s o, rows.1) ns (values_length s o.account 12 placed.account) es table_digits
 
   -- those that the code finds are those of the definition
   pub pair_found :
@@ -109,9 +109,9 @@ module _ (s : List ℕ) (o : Offsetting) (placed : Placed s o) where
       (values_row s o.account 12 placed.account rows.account account)
 
   -- those that the code has may be compared, and are those of the definition
-  pub pair-compared :
+  pub pair_compared :
       (b : Sealed) (boxed : Boxed) (c : Compared) → comparison.Of c ≡ comparison_of (pair_at s b o (box_rows boxed)) → Fit c × (pair_at s b o (box_rows boxed) ≡ done (pair_in c))
-  pair-compared b boxed c e =
+  pair_compared b boxed c e =
       let rows : Rows = record { block = boxed.block; account = word (account_in s o); enciphered = boxed.enciphered } in
       let found = pair_found b rows refl in
       let w = with_natural_compared b.format (table_in s o) rows table_digits c (e ∙ ap comparison_of (sym found)) in

@@ -68,23 +68,23 @@ module _ (s : List ℕ) where
     unfolding verify_ask
     verify_asks pin_key = then_rules (ruled (verify_fields pin_key s at)) _ (stage_rules (verify_fields pin_key s at) (verify_stays s pin_key at l)) (λ v _. unpointed_rules (asked_at s v.offsetting))
 
-    ask-rules : (code : Code) → RulesIn s (ask_by code settings s at)
+    ask_rules : (code : Code) → RulesIn s (ask_by code settings s at)
     unfolding ask_by bk_ask
-    ask-rules Bk = then_rules (ruled (bk_fields settings.restricted s at)) _ (stage_rules (bk_fields settings.restricted s at) (bk_stays s settings.restricted at l)) (λ p _. unpointed_rules (asked_at s p.offsetting))
-    ask-rules Da = verify_asks terminal_key
-    ask-rules Ea = verify_asks zone_key
-    ask-rules Other = record { place = omega arith; field = omega arith }
+    ask_rules Bk = then_rules (ruled (bk_fields settings.restricted s at)) _ (stage_rules (bk_fields settings.restricted s at) (bk_stays s settings.restricted at l)) (λ p _. unpointed_rules (asked_at s p.offsetting))
+    ask_rules Da = verify_asks terminal_key
+    ask_rules Ea = verify_asks zone_key
+    ask_rules Other = record { place = omega arith; field = omega arith }
 
     verify_extracts : (pin_key : Use) → RulesIn s (verify_extract pin_key s at)
     unfolding verify_extract
     verify_extracts pin_key = then_rules (ruled (verify_fields pin_key s at)) _ (stage_rules (verify_fields pin_key s at) (verify_stays s pin_key at l)) (λ _ _. tt)
 
-    extract-rules : (code : Code) → RulesIn s (extract_by code settings s at)
+    extract_rules : (code : Code) → RulesIn s (extract_by code settings s at)
     unfolding extract_by bk_extract
-    extract-rules Bk = then_rules (ruled (bk_fields settings.restricted s at)) _ (stage_rules (bk_fields settings.restricted s at) (bk_stays s settings.restricted at l)) (λ _ _. tt)
-    extract-rules Da = verify_extracts terminal_key
-    extract-rules Ea = verify_extracts zone_key
-    extract-rules Other = record { place = omega arith; field = omega arith }
+    extract_rules Bk = then_rules (ruled (bk_fields settings.restricted s at)) _ (stage_rules (bk_fields settings.restricted s at) (bk_stays s settings.restricted at l)) (λ _ _. tt)
+    extract_rules Da = verify_extracts terminal_key
+    extract_rules Ea = verify_extracts zone_key
+    extract_rules Other = record { place = omega arith; field = omega arith }
 
     module _ (g h : Bool) (block enciphered : List ℕ) where
       verify_answers : (pin_key : Use) → RulesIn s (verify_answer pin_key settings.variable g h s at block enciphered)
@@ -92,13 +92,13 @@ module _ (s : List ℕ) where
       verify_answers pin_key =
           answering_rules (verify_fields pin_key s at) (boxed (length s) g h block enciphered) (λ v rows. and_then (verify_finish settings.variable s v rows) (λ _. done nothing)) (λ v. v.trailer) (verify_stays s pin_key at l) (boxed_rules g h block enciphered)
 
-      answer-rules : (code : Code) → RulesIn s (answer_by code settings g h s at block enciphered)
+      answer_rules : (code : Code) → RulesIn s (answer_by code settings g h s at block enciphered)
       unfolding answer_by bk_answer
-      answer-rules Bk =
+      answer_rules Bk =
           answering_rules (bk_fields settings.restricted s at) (boxed (length s) g h block enciphered) (λ p rows. and_then (bk_finish settings.variable s p rows) (λ ds. done (offset ds))) (λ p. p.trailer) (bk_stays s settings.restricted at l) (boxed_rules g h block enciphered)
-      answer-rules Da = verify_answers terminal_key
-      answer-rules Ea = verify_answers zone_key
-      answer-rules Other = record { place = omega arith; field = omega arith }
+      answer_rules Da = verify_answers terminal_key
+      answer_rules Ea = verify_answers zone_key
+      answer_rules Other = record { place = omega arith; field = omega arith }
 
   -- ---- the calls
 
@@ -112,29 +112,29 @@ module _ (s : List ℕ) where
 
   -- 901 and 902 point at nothing, and what has a frame is short
   opened_rules : {A : Type 0} (least room header : ℕ) (next : ℕ → Ruling A) → ((code : ℕ) → code + 2 ≤ length s → RulesIn s (next code)) → RulesShort s (and_then (unpointed (opened least room header s)) next)
-  opened_rules least room header next go = by-frame (opened least room header s) refl
+  opened_rules least room header next go = by_frame (opened least room header s) refl
     where
       short : {A : Type 0} (o : Ruling A) → length s ≤ 4096 → RulesIn s o → RulesShort s o
       short (done a) l h = tt
       short (refused f) l h = (h, omega (arith, h.place))
 
-      by-frame : (o : Outcome ℕ) → opened least room header s ≡ o → RulesShort s (and_then (unpointed o) next)
-      by-frame (done code) e = let f = opened_frame least room header code e in short (next code) f.0 (go code f.1)
-      by-frame (refused q) e = (record { place = omega arith; field = omega arith }, omega arith)
+      by_frame : (o : Outcome ℕ) → opened least room header s ≡ o → RulesShort s (and_then (unpointed o) next)
+      by_frame (done code) e = let f = opened_frame least room header code e in short (next code) f.0 (go code f.1)
+      by_frame (refused q) e = (record { place = omega arith; field = omega arith }, omega arith)
 
   pub asking_rules : (settings : Settings) (room : ℕ) → RulesShort s (asking settings s room)
   unfolding asking
-  asking_rules settings room = opened_rules 8 room settings.header _ (λ code l. ask-rules settings (code + 2) l (code_of (drop code s)))
+  asking_rules settings room = opened_rules 8 room settings.header _ (λ code l. ask_rules settings (code + 2) l (code_of (drop code s)))
 
   pub extracting_rules : (settings : Settings) (room : ℕ) → RulesShort s (extracting settings s room)
   unfolding extracting
-  extracting_rules settings room = opened_rules 16 room settings.header _ (λ code l. extract-rules settings (code + 2) l (code_of (drop code s)))
+  extracting_rules settings room = opened_rules 16 room settings.header _ (λ code l. extract_rules settings (code + 2) l (code_of (drop code s)))
 
   pub replying_rules : (settings : Settings) (g h : Bool) (block enciphered : List ℕ) (room : ℕ) → RulesShort s (replying settings g h s block enciphered room)
   unfolding replying
   replying_rules settings g h block enciphered room =
       opened_rules 65 room settings.header _
-      (λ code l. then_rules (answer_by (code_of (drop code s)) settings g h s (code + 2) block enciphered) _ (answer-rules settings (code + 2) l g h block enciphered (code_of (drop code s))) (λ _ _. tt))
+      (λ code l. then_rules (answer_by (code_of (drop code s)) settings g h s (code + 2) block enciphered) _ (answer_rules settings (code + 2) l g h block enciphered (code_of (drop code s))) (λ _ _. tt))
 
 -- what is shown of it, in numbers that the C face has room for
 pub shown_short : {A : Type 0} (s : List ℕ) (o : Ruling A) → RulesShort s o → ((shown o).place ≤ 4096) × ((shown o).field ≤ 4096)

@@ -52,11 +52,11 @@ module _ (s : List ℕ) where
   -- a field, and what comes next
   field_stays : {A B : Type 0} (Asked : B → Type 0) (k at : ℕ) (reader : List ℕ → Found A) (next : A → ℕ → Stage B)
       → k ≤ last_field → at ≤ length s → Takes reader → ((a : A) (past : ℕ) → past ≤ length s → StaysIn s Asked (next a past)) → StaysIn s Asked (field k reader s at next)
-  field_stays {A} {B} Asked k at reader next h l takes go = by-found (reader (drop at s)) refl
+  field_stays {A} {B} Asked k at reader next h l takes go = by_found (reader (drop at s)) refl
     where
-      by-found : (o : Found A) → reader (drop at s) ≡ o → StaysIn s Asked (fielded k at o next)
-      by-found (done r) e = go r.0 (at + r.1) (inside_from s at r.1 l (takes (drop at s) r.0 r.1 e))
-      by-found (refused q) e = record { place = l; field = h }
+      by_found : (o : Found A) → reader (drop at s) ≡ o → StaysIn s Asked (fielded k at o next)
+      by_found (done r) e = go r.0 (at + r.1) (inside_from s at r.1 l (takes (drop at s) r.0 r.1 e))
+      by_found (refused q) e = record { place = l; field = h }
 
   -- a stage, and what comes next
   onward_stays : {A B : Type 0} (Asked : A → Type 0) (Wanted : B → Type 0) (stage : Stage A) (next : A → ℕ → Stage B)

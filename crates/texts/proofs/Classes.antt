@@ -25,11 +25,11 @@ from low (suc n) = low ∷ from (suc low) n
 in_range : (low n c : ℕ) → low ≤ c → c < low + n → OneOf c (from low n)
 unfolding from
 in_range low zero c l h = absurd (omega arith)
-in_range low (suc n) c l h = by-test (eqb c low) refl (λ k. in_range (suc low) n c k (omega arith))
+in_range low (suc n) c l h = by_test (eqb c low) refl (λ k. in_range (suc low) n c k (omega arith))
   where
-    by-test : (b : Bool) → eqb c low ≡ b → (suc low ≤ c → OneOf c (from (suc low) n)) → (c ≡ low) ⊎ OneOf c (from (suc low) n)
-    by-test true e next = inl (eqb-true c low e)
-    by-test false e next = inr (next (let d = eqb-false c low e in omega arith))
+    by_test : (b : Bool) → eqb c low ≡ b → (suc low ≤ c → OneOf c (from (suc low) n)) → (c ≡ low) ⊎ OneOf c (from (suc low) n)
+    by_test true e next = inl (eqb-true c low e)
+    by_test false e next = inr (next (let d = eqb-false c low e in omega arith))
 
 range_only : (low high n c : ℕ) → high + 1 ≡ low + n → between low high c ≡ true → OneOf c (from low n)
 range_only low high n c e h =
@@ -53,11 +53,11 @@ one_admitted k c (x ∷ cs) h (inl e) = ap (admits k) e ∙ (all_first k x cs h)
 one_admitted k c (x ∷ cs) h (inr o) = one_admitted k c cs (all_first k x cs h).1 o
 
 hex_only : (c : ℕ) → admits CapitalHex c ≡ true → OneOf c (from 0x30 10 ++ from 0x41 6)
-hex_only c h = by-test (between 0x30 0x39 c) refl h
+hex_only c h = by_test (between 0x30 0x39 c) refl h
   where
-    by-test : (b : Bool) → between 0x30 0x39 c ≡ b → (b || between 0x41 0x46 c) ≡ true → OneOf c (from 0x30 10 ++ from 0x41 6)
-    by-test true e h = in_left c (from 0x30 10) (from 0x41 6) (range_only 0x30 0x39 10 c refl e)
-    by-test false e h = in_right c (from 0x30 10) (from 0x41 6) (range_only 0x41 0x46 6 c refl h)
+    by_test : (b : Bool) → between 0x30 0x39 c ≡ b → (b || between 0x41 0x46 c) ≡ true → OneOf c (from 0x30 10 ++ from 0x41 6)
+    by_test true e h = in_left c (from 0x30 10) (from 0x41 6) (range_only 0x30 0x39 10 c refl e)
+    by_test false e h = in_right c (from 0x30 10) (from 0x41 6) (range_only 0x41 0x46 6 c refl h)
 
 -- character by character
 made_of : (k : Class) (chars : List ℕ) → ((c : ℕ) → admits k c ≡ true → OneOf c chars) → (cs : List ℕ) → all_of k cs ≡ true → MadeOf chars cs

@@ -124,35 +124,35 @@ bare_exact b = record {
 
 module _ (letters : Letters) (for : Use) where
   -- letter by letter
-  abbrev byLetter : Writing Lmk
-  byLetter =
+  abbrev by_letter : Writing Lmk
+  by_letter =
       either letter_u (gated letters.double (hex 32))
       (either letter_t (gated letters.triple (hex 48))
       (either letter_s (gated letters.block (blocks for)) (gated letters.bare (hex 32))))
 
-  letter_same : Same byLetter (keyed letters for)
+  letter_same : Same by_letter (keyed letters for)
   unfolding begins
   letter_same = record { to = to; text = text; value = value; good = good; from = from }
     where
-      to : byLetter.Part → Key
+      to : by_letter.Part → Key
       to (inl cs) = double cs
       to (inr (inl cs)) = triple cs
       to (inr (inr (inl k))) = block k
       to (inr (inr (inr cs))) = bare cs
 
-      text : (p : byLetter.Part) → key_text (to p) ≡ byLetter.text p
+      text : (p : by_letter.Part) → key_text (to p) ≡ by_letter.text p
       text (inl cs) = refl
       text (inr (inl cs)) = refl
       text (inr (inr (inl k))) = refl
       text (inr (inr (inr cs))) = refl
 
-      value : (p : byLetter.Part) → (keyed letters for).value (to p) ≡ byLetter.value p
+      value : (p : by_letter.Part) → (keyed letters for).value (to p) ≡ by_letter.value p
       value (inl cs) = refl
       value (inr (inl cs)) = refl
       value (inr (inr (inl k))) = refl
       value (inr (inr (inr cs))) = refl
 
-      good : (p : byLetter.Part) (rest : List ℕ) → byLetter.fine p rest → (keyed letters for).fine (to p) rest
+      good : (p : by_letter.Part) (rest : List ℕ) → by_letter.fine p rest → (keyed letters for).fine (to p) rest
       good (inl cs) rest g = g
       good (inr (inl cs)) rest g = g.1
       good (inr (inr (inl k))) rest g = g.1.1
@@ -167,7 +167,7 @@ module _ (letters : Letters) (for : Use) where
           apart true e = sym (all_first CapitalHex c cs g.1).0 ∙ ap (admits CapitalHex) (sym (eqb-true m c e)) ∙ n
           apart false e = refl
 
-      from : (q : Key) (rest : List ℕ) → (keyed letters for).fine q rest → (p : byLetter.Part) × (to p ≡ q) × byLetter.fine p rest
+      from : (q : Key) (rest : List ℕ) → (keyed letters for).fine q rest → (p : by_letter.Part) × (to p ≡ q) × by_letter.fine p rest
       from (bare cs) rest g = (inr (inr (inr cs)), refl, (other letter_u refl cs rest g.1, (other letter_t refl cs rest g.1, (other letter_s refl cs rest g.1, g))))
       from (double cs) rest g = (inl cs, refl, g)
       from (triple cs) rest g = (inr (inl cs), refl, (refl, g))
@@ -176,7 +176,7 @@ module _ (letters : Letters) (for : Use) where
   lettered_exact : Exact (lettered letters for) (keyed letters for)
   unfolding lettered
   lettered_exact =
-      exact_as byLetter (keyed letters for) letter_same (lettered letters for)
+      exact_as by_letter (keyed letters for) letter_same (lettered letters for)
       (either_exact letter_u _ _ _ _ (admitted_exact letters.double (hex_key 32) (hex 32) (hex_exact 32))
       (either_exact letter_t _ _ _ _ (admitted_exact letters.triple (hex_key 48) (hex 48) (hex_exact 48))
       (either_exact letter_s _ _ _ _ (admitted_exact letters.block (key_block for) (blocks for) (block_exact for)) (bare_exact letters.bare))))

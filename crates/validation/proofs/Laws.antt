@@ -199,64 +199,64 @@ module _ (s : List ℕ) (at : ℕ) (end : at ≡ hex_end s) (long : length s ≡
 -- ---- the digits in the place of N
 
 module _ (account : ℕ) (s : List ℕ) (at : ℕ) (long : length s ≡ 12) (low : at < 12) where
-  abbrev frontRow : List ℕ
-  frontRow = map value_of (take at s)
+  abbrev front_row : List ℕ
+  front_row = map value_of (take at s)
 
-  abbrev lastFive : List ℕ
-  lastFive = last_of 5 (row 12 account)
+  abbrev five_last : List ℕ
+  five_last = last_of 5 (row 12 account)
 
-  abbrev backRow : List ℕ
-  backRow = map value_of (drop (suc at) s)
+  abbrev back_row : List ℕ
+  back_row = map value_of (drop (suc at) s)
 
-  front_length : length frontRow ≡ at
+  front_length : length front_row ≡ at
   front_length = values_length (take at s) ∙ length-take-le at s (omega arith)
 
-  last_length : length lastFive ≡ 5
+  last_length : length five_last ≡ 5
   last_length = length-drop (length (row 12 account) - 5) (row 12 account) ∙ ap (λ (n : ℕ). n - (n - 5)) (row_length 12 account)
 
-  last_below : Below 16 lastFive
+  last_below : Below 16 five_last
   last_below = below_drop 16 (length (row 12 account) - 5) (row 12 account) (row_below 12 account)
 
-  back_length : length backRow ≡ 11 - at
+  back_length : length back_row ≡ 11 - at
   back_length = values_length (drop (suc at) s) ∙ length-drop (suc at) s ∙ omega arith
 
-  tail_length : length (lastFive ++ backRow) ≡ 16 - at
-  tail_length = length-append lastFive backRow ∙ (let a = last_length in let b = back_length in omega arith)
+  tail_length : length (five_last ++ back_row) ≡ 16 - at
+  tail_length = length-append five_last back_row ∙ (let a = last_length in let b = back_length in omega arith)
 
   -- the three parts are as long as they may be
-  pub front_under : (f : ℕ) → f ≡ word frontRow → f < 16 ^ at
-  front_under f e = rw e (subst (λ (n : ℕ). word frontRow < 16 ^ n) front_length (word_lt frontRow (values_below (take at s))))
+  pub front_under : (f : ℕ) → f ≡ word front_row → f < 16 ^ at
+  front_under f e = rw e (subst (λ (n : ℕ). word front_row < 16 ^ n) front_length (word_lt front_row (values_below (take at s))))
 
-  pub last_five : (l : ℕ) → l ≡ word (slice 7 12 (row 16 account)) → l ≡ word lastFive
+  pub last_five : (l : ℕ) → l ≡ word (slice 7 12 (row 16 account)) → l ≡ word five_last
   last_five l e = e ∙ ap (λ (xs : List ℕ). word (drop 7 xs)) (row_take 12 16 account (lit≤ tt))
       ∙ ap (λ (n : ℕ). word (drop (n - 5) (row 12 account))) (sym (row_length 12 account))
 
   pub last_under : (l : ℕ) → l ≡ word (slice 7 12 (row 16 account)) → l < 16 ^ 5
-  last_under l e = rw (last_five l e) (subst (λ (n : ℕ). word lastFive < 16 ^ n) last_length (word_lt lastFive last_below))
+  last_under l e = rw (last_five l e) (subst (λ (n : ℕ). word five_last < 16 ^ n) last_length (word_lt five_last last_below))
 
-  pub back_values : (b : ℕ) → b ≡ word (map value_of (take (length s - (at + 1)) (drop (at + 1) s))) → b ≡ word backRow
+  pub back_values : (b : ℕ) → b ≡ word (map value_of (take (length s - (at + 1)) (drop (at + 1) s))) → b ≡ word back_row
   back_values b e = e ∙ ap (λ (cs : List ℕ). word (map value_of cs)) (behind (at + 1) s) ∙ ap (λ (k : ℕ). word (map value_of (drop k s))) (add-one at)
 
   pub back_under : (b : ℕ) → b ≡ word (map value_of (take (length s - (at + 1)) (drop (at + 1) s))) → b < 16 ^ 11
-  back_under b e = rw (back_values b e) (word_under 11 backRow (values_below (drop (suc at) s)) (let l = back_length in omega arith))
+  back_under b e = rw (back_values b e) (word_under 11 back_row (values_below (drop (suc at) s)) (let l = back_length in omega arith))
 
   -- the digits with what stands behind them
-  pub tail-joined :
+  pub tail_joined :
       (l b t : ℕ) → l ≡ word (slice 7 12 (row 16 account)) → b ≡ word (map value_of (take (length s - (at + 1)) (drop (at + 1) s)))
-      → t ≡ b * 16 ^ 5 + l → t ≡ word (lastFive ++ backRow)
-  tail-joined l b t p q e =
+      → t ≡ b * 16 ^ 5 + l → t ≡ word (five_last ++ back_row)
+  tail_joined l b t p q e =
       e ∙ ap₂ (λ (x y : ℕ). x * 16 ^ 5 + y) (back_values b q) (last_five l p)
-      ∙ sym (word_append lastFive backRow ∙ ap (λ (n : ℕ). word backRow * 16 ^ n + word lastFive) last_length)
+      ∙ sym (word_append five_last back_row ∙ ap (λ (n : ℕ). word back_row * 16 ^ n + word five_last) last_length)
 
-  pub tail_under : (t : ℕ) → t ≡ word (lastFive ++ backRow) → t < 16 ^ (16 - at)
+  pub tail_under : (t : ℕ) → t ≡ word (five_last ++ back_row) → t < 16 ^ (16 - at)
   tail_under t e =
-      rw e (subst (λ (n : ℕ). word (lastFive ++ backRow) < 16 ^ n) tail_length
-      (word_lt (lastFive ++ backRow) (below_append 16 lastFive backRow last_below (values_below (drop (suc at) s)))))
+      rw e (subst (λ (n : ℕ). word (five_last ++ back_row) < 16 ^ n) tail_length
+      (word_lt (five_last ++ back_row) (below_append 16 five_last back_row last_below (values_below (drop (suc at) s)))))
 
   -- and with what stands before
-  pub all-joined :
-      (f t r : ℕ) → f ≡ word frontRow → t ≡ word (lastFive ++ backRow) → r ≡ t * 16 ^ at + f → r ≡ word (frontRow ++ lastFive ++ backRow)
-  all-joined f t r p q e =
+  pub all_joined :
+      (f t r : ℕ) → f ≡ word front_row → t ≡ word (five_last ++ back_row) → r ≡ t * 16 ^ at + f → r ≡ word (front_row ++ five_last ++ back_row)
+  all_joined f t r p q e =
       e ∙ ap₂ (λ (x y : ℕ). x * 16 ^ at + y) q p
-      ∙ sym (ap word (append_assoc frontRow lastFive backRow) ∙ word_append frontRow (lastFive ++ backRow)
-      ∙ ap (λ (n : ℕ). word (lastFive ++ backRow) * 16 ^ n + word frontRow) front_length)
+      ∙ sym (ap word (append_assoc front_row five_last back_row) ∙ word_append front_row (five_last ++ back_row)
+      ∙ ap (λ (n : ℕ). word (five_last ++ back_row) * 16 ^ n + word front_row) front_length)

@@ -46,11 +46,11 @@ module _ (s : List ℕ) (at width : ℕ) (w : width ≡ width_of (drop at s)) wh
     part : take (at + width - at) (drop at s) ≡ take (width_of (drop at s)) (drop at s)
     part = ap (λ (n : ℕ). take n (drop at s)) exact
 
-    pub validation-whole : (x : Shape) → x ≡ shape_of (take (at + width - at) (drop at s)) → is_validation (take (at + width - at) (drop at s)) ≡ true
+    pub validation_whole : (x : Shape) → x ≡ shape_of (take (at + width - at) (drop at s)) → is_validation (take (at + width - at) (drop at s)) ≡ true
         → shape.Got x (cursor_at (at + width)) ≡ shape_read at (validation_field (drop at s))
     unfolding validation_field
-    validation-whole x d e = rw (fits, ap is_validation (sym part) ∙ e, w, d ∙ ap shape_of part)
+    validation_whole x d e = rw (fits, ap is_validation (sym part) ∙ e, w, d ∙ ap shape_of part)
 
-    pub validation-wrong : is_validation (take (at + width - at) (drop at s)) ≡ false → shape.Bad Field15 ≡ shape_read at (validation_field (drop at s))
+    pub validation_wrong : is_validation (take (at + width - at) (drop at s)) ≡ false → shape.Bad Field15 ≡ shape_read at (validation_field (drop at s))
     unfolding validation_field
-    validation-wrong e = rw (fits, ap is_validation (sym part) ∙ e)
+    validation_wrong e = rw (fits, ap is_validation (sym part) ∙ e)

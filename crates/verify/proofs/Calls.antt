@@ -76,17 +76,17 @@ module _ (pin_key : Use) (variable g h : Bool) (s : List ℕ) (at : ℕ) (block 
 
   module _ (v : Verification) (got : fields.Got v ≡ verification_read (verify_fields pin_key s at)) where
     -- the key box's answers are
-    pub answer-unboxed : (f : Fault) → box_answer.Bad f ≡ box_read (boxed (length s) g h block enciphered) → verify_answer pin_key variable g h s at block enciphered ≡ refused f
+    pub answer_unboxed : (f : Fault) → box_answer.Bad f ≡ box_read (boxed (length s) g h block enciphered) → verify_answer pin_key variable g h s at block enciphered ≡ refused f
     unfolding verify_answer
-    answer-unboxed f e = rw ((fields_found (verify_fields pin_key s at) v got).1, box_bad (boxed (length s) g h block enciphered) f e)
+    answer_unboxed f e = rw ((fields_found (verify_fields pin_key s at) v got).1, box_bad (boxed (length s) g h block enciphered) f e)
 
     module _ (b : Boxed) (small : Below 256 block) (little : Below 256 enciphered) (box : box_answer.Got b ≡ box_read (boxed (length s) g h block enciphered)) where
       -- the verdict is none, or 01
-      pub answer-refused :
+      pub answer_refused :
           (q : Refusal) → verdict.Refused q ≡ verdict_of (verify_finish variable s v (box_rows b))
           → verify_answer pin_key variable g h s at block enciphered ≡ refused (record { refusal = q; field = 0; place = 0 })
       unfolding verify_answer
-      answer-refused q e =
+      answer_refused q e =
           rw (
             (fields_found (verify_fields pin_key s at) v got).1,
             box_found (length s) g h block enciphered small little b box,
@@ -94,11 +94,11 @@ module _ (pin_key : Use) (variable g h : Bool) (s : List ℕ) (at : ℕ) (block 
           )
 
       -- it is 00
-      pub answer-verified :
+      pub answer_verified :
           verdict.Verified ≡ verdict_of (verify_finish variable s v (box_rows b))
           → answered.With Nothing v.trailer ≡ answered_of (verify_answer pin_key variable g h s at block enciphered)
       unfolding verify_answer
-      answer-verified e =
+      answer_verified e =
           rw (
             (fields_found (verify_fields pin_key s at) v got).1,
             box_found (length s) g h block enciphered small little b box,

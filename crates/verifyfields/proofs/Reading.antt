@@ -64,10 +64,10 @@ module _ (pin_key : Use) (s : List ℕ) (at : ℕ) where
 
   module _ (ks : Keys) (c₃ : Cursor) (e₁ : keyed.Got ks c₃ ≡ keys_read pair) where
     -- the maximum is
-    pub no-maximum : (q : _) → value.Bad q ≡ value_from c₃.at (number maximum maximum Field15 (drop c₃.at s))
+    pub no_maximum : (q : _) → value.Bad q ≡ value_from c₃.at (number maximum maximum Field15 (drop c₃.at s))
         → front pin_key s at ≡ faulty (record { refusal = Field15; field = 3; place = c₃.at })
     unfolding front
-    no-maximum q e =
+    no_maximum q e =
         let bad = value_of_bad c₃.at (number maximum maximum Field15 (drop c₃.at s)) q e in
         rw (keys_found pair ks c₃ e₁, field_bad 3 c₃.at _ (number maximum maximum Field15) s q bad, number_refuses maximum maximum Field15 (drop c₃.at s) q bad)
 
@@ -93,9 +93,9 @@ module _ (pin_key : Use) (s : List ℕ) (at : ℕ) where
 
     module _ (block : Sealed) (c₆ : Cursor) (e₄ : blocked.Got block c₆ ≡ sealed_read (sealed 4 restricted s c₄.at)) where
       -- what the offset is judged with is
-      pub no-data : (f : Fault) → data-read.Bad f ≡ offsetting_read (offsetting 6 s c₆.at) → verify_fields pin_key s at ≡ faulty f
+      pub no_data : (f : Fault) → data-read.Bad f ≡ offsetting_read (offsetting 6 s c₆.at) → verify_fields pin_key s at ≡ faulty f
       unfolding verify_fields
-      no-data f e =
+      no_data f e =
           rw (
             keys_found (front pin_key s at) ks c₄ e₁,
             sealed_found (sealed 4 restricted s c₄.at) block c₆ e₄,
@@ -104,10 +104,10 @@ module _ (pin_key : Use) (s : List ℕ) (at : ℕ) where
 
       module _ (inputs : Offsetting) (c₁₀ : Cursor) (e₆ : data-read.Got inputs c₁₀ ≡ offsetting_read (offsetting 6 s c₆.at)) where
         -- the offset is
-        pub no-offset : (q : _) → value.Bad q ≡ value_from c₁₀.at (offset_field (drop c₁₀.at s))
+        pub no_offset_lem : (q : _) → value.Bad q ≡ value_from c₁₀.at (offset_field (drop c₁₀.at s))
             → verify_fields pin_key s at ≡ faulty (record { refusal = Field15; field = 10; place = c₁₀.at })
         unfolding verify_fields
-        no-offset q e =
+        no_offset_lem q e =
             let bad = value_of_bad c₁₀.at (offset_field (drop c₁₀.at s)) q e in
             rw (
               keys_found (front pin_key s at) ks c₄ e₁,

@@ -27,7 +27,7 @@ use Rattle.keybox.specs.declared.Boxed.{Boxed}
 use Rattle.offsetting.specs.Offsetting.{part}
 use Rattle.pairing.specs.Pairing.{pair_at}
 use Rattle.pairing.specs.Answers.{box_rows}
-use Rattle.pairing.proofs.Laws.{pair-compared}
+use Rattle.pairing.proofs.Laws.{pair_compared}
 use Rattle.verifyfields.specs.VerifyFields.{offset_in}
 use Rattle.verifyfields.specs.Answers.{Placed}
 use Rattle.verifyfields.specs.declared.Verification.{Verification}
@@ -68,9 +68,9 @@ module _ (s : List ℕ) (v : Verification) (placed : Placed s v) where
 
     module _ (c : Compared) (got : comparison.Of c ≡ comparison_of found) (presented : Pin) (held : presented ≡ pin_of (offset_in s v)) where
       -- the PIN and its natural PIN may be compared with what is presented
-      pub verdict-may : Fit c × (presented.digits < 16 ^ presented.length)
-      verdict-may = (
-        (pair-compared s v.offsetting placed.offsetting v.sealed boxed c got).0,
+      pub verdict_may : Fit c × (presented.digits < 16 ^ presented.length)
+      verdict_may = (
+        (pair_compared s v.offsetting placed.offsetting v.sealed boxed c got).0,
         subst (λ (p : Pin). p.digits < 16 ^ p.length) (sym held) (word_lt (offset_in s v) below),
       )
 
@@ -79,4 +79,4 @@ module _ (s : List ℕ) (v : Verification) (placed : Placed s v) where
       unfolding verify_finish
       finish_judged =
           let digits : digits_of presented ≡ offset_in s v = ap digits_of held ∙ row_word (offset_in s v) below in
-          rw ((pair-compared s v.offsetting placed.offsetting v.sealed boxed c got).1, digits)
+          rw ((pair_compared s v.offsetting placed.offsetting v.sealed boxed c got).1, digits)

@@ -110,30 +110,30 @@ module _ (mark at : ℕ) (s : List ℕ) where
 
   module _ (digits : Cursor) (there : Behind digits ≡ mark_from at (marked mark (drop at s))) where
     -- the count stands behind the mark
-    counted-there : drop digits.at s ≡ drop 1 (drop at s)
-    counted-there = ap (λ (c : Cursor). drop c.at s) (mark_there at (marked mark (drop at s)) digits there).1 ∙ sym (drop-drop 1 at s)
+    counted_there : drop digits.at s ≡ drop 1 (drop at s)
+    counted_there = ap (λ (c : Cursor). drop c.at s) (mark_there at (marked mark (drop at s)) digits there).1 ∙ sym (drop-drop 1 at s)
 
     -- without a count it is refused
-    pub field-uncounted : (q : Refusal) → value.Bad q ≡ value_from digits.at (number 0 99 WeakList03 (drop digits.at s)) → Bad WeakList03 ≡ weak_from at (weak_field mark at (drop at s))
+    pub field_uncounted : (q : Refusal) → value.Bad q ≡ value_from digits.at (number 0 99 WeakList03 (drop digits.at s)) → Bad WeakList03 ≡ weak_from at (weak_field mark at (drop at s))
     unfolding weak_field
-    field-uncounted q e =
+    field_uncounted q e =
         let bad = value_of_bad digits.at (number 0 99 WeakList03 (drop digits.at s)) q e in
-        rw ((mark_there at (marked mark (drop at s)) digits there).0, ← counted-there, bad, number_refuses 0 99 WeakList03 (drop digits.at s) q bad)
+        rw ((mark_there at (marked mark (drop at s)) digits there).0, ← counted_there, bad, number_refuses 0 99 WeakList03 (drop digits.at s) q bad)
 
     -- a count has two digits and ends three characters behind the beginning of the field
-    pub counted-behind : (count : ℕ) (next : Cursor) → value.Got count next ≡ value_from digits.at (number 0 99 WeakList03 (drop digits.at s)) → (count ≤ 99) × (next.at ≡ at + 3)
-    counted-behind count next e =
+    pub counted_behind : (count : ℕ) (next : Cursor) → value.Got count next ≡ value_from digits.at (number 0 99 WeakList03 (drop digits.at s)) → (count ≤ 99) × (next.at ≡ at + 3)
+    counted_behind count next e =
         let read = number_read s digits.at count next 0 99 WeakList03 e in
         let first = ap (λ (c : Cursor). c.at) (mark_there at (marked mark (drop at s)) digits there).1 in
         (read.4, ap (λ (c : Cursor). c.at) read.1 ∙ omega arith)
 
     -- with one the rest of it decides
-    pub field-counted : (count : ℕ) (next : Cursor) → value.Got count next ≡ value_from digits.at (number 0 99 WeakList03 (drop digits.at s))
+    pub field_counted : (count : ℕ) (next : Cursor) → value.Got count next ≡ value_from digits.at (number 0 99 WeakList03 (drop digits.at s))
         → weak_from at (weak_field mark at (drop at s)) ≡ weak_from next.at (listed next.at count (drop next.at s))
     unfolding weak_field
-    field-counted count next e =
+    field_counted count next e =
         let got = value_of_found digits.at (number 0 99 WeakList03 (drop digits.at s)) count next e in
-        rw ((mark_there at (marked mark (drop at s)) digits there).0, ← counted-there, got.1, drop-drop 3 at s, (counted-behind count next e).1)
+        rw ((mark_there at (marked mark (drop at s)) digits there).0, ← counted_there, got.1, drop-drop 3 at s, (counted_behind count next e).1)
         (behind_from at 3 (listed (at + 3) count (drop (at + 3) s)))
 
 -- ---- behind the code's answer

@@ -85,11 +85,11 @@ bytes_above (suc n) a r =
     let s : a * 2 ^ (8 * suc n) + r ≡ r + a * 256 * 2 ^ (8 * n) = ap (λ (m : ℕ). a * 2 ^ m + r) e ∙ ap (λ (x : ℕ). a * x + r) (pow-add 2 8 (8 * n)) ∙ omega arith in
     let t : a * 2 ^ (8 * suc n) + r ≡ a * 256 * 2 ^ (8 * n) + r = s ∙ omega arith in
     ap₂ (λ (x : ℕ) (l : List ℕ). x ∷ l)
-    (ap (λ (x : ℕ). x / 2 ^ (8 * n) % 256) s ∙ ap (λ (x : ℕ). x % 256) (add-mul-div_right r (a * 256) (pow_pos (8 * n))) ∙ whole-bytes (r / 2 ^ (8 * n)) a)
+    (ap (λ (x : ℕ). x / 2 ^ (8 * n) % 256) s ∙ ap (λ (x : ℕ). x % 256) (add-mul-div_right r (a * 256) (pow_pos (8 * n))) ∙ whole_bytes (r / 2 ^ (8 * n)) a)
     (ap (in_bytes n) t ∙ bytes_above n (a * 256) r)
   where
-    whole-bytes : (x y : ℕ) → (x + y * 256) % 256 ≡ x % 256
-    whole-bytes x y = omega arith
+    whole_bytes : (x y : ℕ) → (x + y * 256) % 256 ≡ x % 256
+    whole_bytes x y = omega arith
 
 pub bytes_spelled : (bs : List ℕ) → Below 256 bs → in_bytes (length bs) (spelled bs) ≡ bs
 unfolding in_bytes spelled

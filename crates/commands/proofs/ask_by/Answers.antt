@@ -1,0 +1,21 @@
+-- `commands::ask_by` meets its contract.
+use mathlib.Core.Path.{sym, ap, ◌∙◌}
+use Rattle.responses.specs.declared.Asked.TheVariants.{Bad}
+use Rattle.commands.specs.Commands.{ask_by}
+use Rattle.commands.proofs.ask_by.Goals as goal
+
+pub returns-in-Bk : goal.returns-in-Bk
+unfolding ask_by
+returns-in-Bk c = rw (sym c.at.ensures ∙ c.in-Bk.is) c.ask.ensures
+
+pub returns-in-Da : goal.returns-in-Da
+unfolding ask_by
+returns-in-Da c = rw (sym c.at.ensures ∙ c.in-Da.is) c.ask-in-Da.ensures
+
+pub returns-in-Ea : goal.returns-in-Ea
+unfolding ask_by
+returns-in-Ea c = rw (sym c.at.ensures ∙ c.in-Ea.is) c.ask-in-Ea.ensures
+
+pub returns-in-Other : goal.returns-in-Other
+unfolding ask_by
+returns-in-Other c = ap Bad c.unpointed.ensures ∙ rw (sym c.at.ensures ∙ c.in-Other.is)

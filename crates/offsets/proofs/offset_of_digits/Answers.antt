@@ -1,0 +1,25 @@
+-- `offsets::offset_of_digits` meets its contract.
+use mathlib.Core.Path.{ap, sym, ◌∙◌, subst}
+use lib.ListN.{length}
+use Rattle.offsets.proofs.Laws.{Texty, answered, roomy, digits_texty}
+use Rattle.offsets.specs.Answers.{text_of, Roomy}
+use Rattle.offsets.specs.Offsets.{digits_judged, spelt}
+use Rattle.pins.specs.declared.Reading.{Reading}
+use Rattle.numbers.proofs.Laws.{does_as}
+use Rattle.offsets.proofs.offset_of_digits.Goals as goal
+
+pub answer-requires : goal.answer-requires
+answer-requires c =
+    let a = c.args in
+    let room = length a.out.now in
+    let o = digits_judged a.settings.variable a.check a.pin.now a.natural.now room in
+    let texty : Texty o room = digits_texty a.settings.variable a.check a.pin.now a.natural.now room in
+    subst (λ (j : Reading). Roomy j room) (sym c.judged_digits-judged.ensures) (roomy o room texty)
+
+pub returns : goal.returns
+returns c =
+    let a = c.args in
+    let room = length a.out.now in
+    let o = digits_judged a.settings.variable a.check a.pin.now a.natural.now room in
+    let texty : Texty o room = digits_texty a.settings.variable a.check a.pin.now a.natural.now room in
+    does_as _ (spelt o) (ap text_of c.judged_digits-judged.ensures ∙ answered o room texty) c.answer.ensures

@@ -1,0 +1,13 @@
+-- `quillgimlet::qg_differences` meets its contract.
+use mathlib.Core.Path.{refl, ap}
+use lib.ListN.{length}
+use Rattle.offsets.specs.Offsets.{differences_of}
+use Rattle.settings.specs.declared.Settings.{Settings}
+use Rattle.numbers.specs.Promise.{quietly}
+use Rattle.face.proofs.Laws.{faced}
+use Rattle.quillgimlet.proofs.qg_differences.Goals as goal
+
+pub returns : goal.returns
+returns c =
+    let a = c.args in
+    faced c.plain.result (ap (λ (s : Settings). quietly (differences_of s.variable a.check a.pin.now a.natural.now (length a.out.now))) c.inner.ensures) refl c.differences.ensures c.plain.ensures
