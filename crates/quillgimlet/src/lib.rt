@@ -1,5 +1,7 @@
 // The C face: what the classroom server links. Each call hands its numbers and byte runs on, and keeps its callee's promise; beside it
 // stands what its reply points at.
+#![tactic(auto)]
+
 ghost use Rattle.std.specs.Prelude.{◌≡◌, []};
 ghost use lib.ListN.{length};
 ghost use Rattle.numbers.specs.Promise.{Does, quietly};
@@ -22,8 +24,7 @@ use ciphers::Way;
 use face::{FaceReply, FaceSettings};
 use settings::Settings;
 
-#[unsafe(no_mangle)]
-pub extern "C" fn qg_usual() -> FaceSettings
+pub fn qg_usual() -> FaceSettings
     ensures { result ≡ face_of usually }
 {
     let usual = Settings::usual();
@@ -34,24 +35,21 @@ pub extern "C" fn qg_usual() -> FaceSettings
     }
 }
 
-#[unsafe(no_mangle)]
-pub extern "C" fn qg_ask(settings: FaceSettings, command: &[u8], out: &mut [u8]) -> FaceReply
+pub fn qg_ask(settings: FaceSettings, command: &[u8], out: &mut [u8]) -> FaceReply
     ensures { Does (quietly (asked (settings_of settings) command.now (length out.old))) out.old (reply_in result) out.new × (pointer_in result ≡ shown (asking (settings_of settings) command.now (length out.old))) }
 {
     let told = commands::ask(face::inner(settings), command, out);
     face::wide(told.reply, told.pointer)
 }
 
-#[unsafe(no_mangle)]
-pub extern "C" fn qg_pin_block(settings: FaceSettings, command: &[u8], out: &mut [u8]) -> FaceReply
+pub fn qg_pin_block(settings: FaceSettings, command: &[u8], out: &mut [u8]) -> FaceReply
     ensures { Does (quietly (extracted (settings_of settings) command.now (length out.old))) out.old (reply_in result) out.new × (pointer_in result ≡ shown (extracting (settings_of settings) command.now (length out.old))) }
 {
     let told = commands::pin_block(face::inner(settings), command, out);
     face::wide(told.reply, told.pointer)
 }
 
-#[unsafe(no_mangle)]
-pub extern "C" fn qg_answer(
+pub fn qg_answer(
     settings: FaceSettings,
     pinparity: u8,
     pvkparity: u8,
@@ -74,20 +72,13 @@ pub extern "C" fn qg_answer(
     face::wide(told.reply, told.pointer)
 }
 
-#[unsafe(no_mangle)]
-pub extern "C" fn qg_read_block(
-    format: u32,
-    block: &[u8],
-    account: &[u8],
-    out: &mut [u8],
-) -> FaceReply
+pub fn qg_read_block(format: u32, block: &[u8], account: &[u8], out: &mut [u8]) -> FaceReply
     ensures { Does (quietly (read_block format block.now account.now (length out.old))) out.old (reply_in result) out.new × (pointer_in result ≡ nowhere) }
 {
     face::plain(blockcalls::read_block(format, block, account, out))
 }
 
-#[unsafe(no_mangle)]
-pub extern "C" fn qg_write_block(
+pub fn qg_write_block(
     format: u32,
     pin: &[u8],
     account: &[u8],
@@ -99,8 +90,7 @@ pub extern "C" fn qg_write_block(
     face::plain(blockcalls::write_block(format, pin, account, fill, out))
 }
 
-#[unsafe(no_mangle)]
-pub extern "C" fn qg_translate(
+pub fn qg_translate(
     settings: FaceSettings,
     from: u32,
     to: u32,
@@ -114,31 +104,19 @@ pub extern "C" fn qg_translate(
     face::plain(translation::translate(face::inner(settings), from, to, block, account, fill, out))
 }
 
-#[unsafe(no_mangle)]
-pub extern "C" fn qg_validation_block(
-    validation: &[u8],
-    account: &[u8],
-    out: &mut [u8],
-) -> FaceReply
+pub fn qg_validation_block(validation: &[u8], account: &[u8], out: &mut [u8]) -> FaceReply
     ensures { Does (quietly (validation_block validation.now account.now (lib.ListN.length out.old))) out.old (reply_in result) out.new × (pointer_in result ≡ nowhere) }
 {
     face::plain(validation::validation_block(validation, account, out))
 }
 
-#[unsafe(no_mangle)]
-pub extern "C" fn qg_natural_pin(
-    length: u32,
-    table: &[u8],
-    enciphered: &[u8],
-    out: &mut [u8],
-) -> FaceReply
+pub fn qg_natural_pin(length: u32, table: &[u8], enciphered: &[u8], out: &mut [u8]) -> FaceReply
     ensures { Does (quietly (natural_pin length table.now enciphered.now (lib.ListN.length out.old))) out.old (reply_in result) out.new × (pointer_in result ≡ nowhere) }
 {
     face::plain(naturals::natural_pin(length, table, enciphered, out))
 }
 
-#[unsafe(no_mangle)]
-pub extern "C" fn qg_offset(
+pub fn qg_offset(
     settings: FaceSettings,
     format: u32,
     check: u32,
@@ -162,8 +140,7 @@ pub extern "C" fn qg_offset(
     ))
 }
 
-#[unsafe(no_mangle)]
-pub extern "C" fn qg_offset_of_digits(
+pub fn qg_offset_of_digits(
     settings: FaceSettings,
     check: u32,
     pin: &[u8],
@@ -175,8 +152,7 @@ pub extern "C" fn qg_offset_of_digits(
     face::plain(offsets::offset_of_digits(face::inner(settings), check, pin, natural, out))
 }
 
-#[unsafe(no_mangle)]
-pub extern "C" fn qg_differences(
+pub fn qg_differences(
     settings: FaceSettings,
     check: u32,
     pin: &[u8],
@@ -188,8 +164,7 @@ pub extern "C" fn qg_differences(
     face::plain(offsets::differences(face::inner(settings), check, pin, natural, out))
 }
 
-#[unsafe(no_mangle)]
-pub extern "C" fn qg_offset_verdict(
+pub fn qg_offset_verdict(
     settings: FaceSettings,
     format: u32,
     check: u32,
@@ -213,8 +188,7 @@ pub extern "C" fn qg_offset_verdict(
     ))
 }
 
-#[unsafe(no_mangle)]
-pub extern "C" fn qg_pvv_input(
+pub fn qg_pvv_input(
     format: u32,
     index: u32,
     block: &[u8],
@@ -226,15 +200,13 @@ pub extern "C" fn qg_pvv_input(
     face::plain(pvv::pvv_input(format, index, block, account, out))
 }
 
-#[unsafe(no_mangle)]
-pub extern "C" fn qg_pvv(enciphered: &[u8], out: &mut [u8]) -> FaceReply
+pub fn qg_pvv(enciphered: &[u8], out: &mut [u8]) -> FaceReply
     ensures { Does (quietly (pvv_made enciphered.now (lib.ListN.length out.old))) out.old (reply_in result) out.new × (pointer_in result ≡ nowhere) }
 {
     face::plain(pvv::pvv(enciphered, out))
 }
 
-#[unsafe(no_mangle)]
-pub extern "C" fn qg_pvv_verdict(
+pub fn qg_pvv_verdict(
     format: u32,
     index: u32,
     block: &[u8],
@@ -249,50 +221,43 @@ pub extern "C" fn qg_pvv_verdict(
 
 // ---- the lab: clear keys, and no key box
 
-#[unsafe(no_mangle)]
-pub extern "C" fn qg_des_encipher(key: &[u8], block: &[u8], out: &mut [u8]) -> FaceReply
+pub fn qg_des_encipher(key: &[u8], block: &[u8], out: &mut [u8]) -> FaceReply
     ensures { Does (quietly (des_call Way.Encipher key.now block.now (length out.old))) out.old (reply_in result) out.new × (pointer_in result ≡ nowhere) }
 {
     face::plain(ciphercalls::des(Way::Encipher, key, block, out))
 }
 
-#[unsafe(no_mangle)]
-pub extern "C" fn qg_des_decipher(key: &[u8], block: &[u8], out: &mut [u8]) -> FaceReply
+pub fn qg_des_decipher(key: &[u8], block: &[u8], out: &mut [u8]) -> FaceReply
     ensures { Does (quietly (des_call Way.Decipher key.now block.now (length out.old))) out.old (reply_in result) out.new × (pointer_in result ≡ nowhere) }
 {
     face::plain(ciphercalls::des(Way::Decipher, key, block, out))
 }
 
-#[unsafe(no_mangle)]
-pub extern "C" fn qg_tdes_encipher(key: &[u8], block: &[u8], out: &mut [u8]) -> FaceReply
+pub fn qg_tdes_encipher(key: &[u8], block: &[u8], out: &mut [u8]) -> FaceReply
     ensures { Does (quietly (triple_call Way.Encipher key.now block.now (length out.old))) out.old (reply_in result) out.new × (pointer_in result ≡ nowhere) }
 {
     face::plain(ciphercalls::triple(Way::Encipher, key, block, out))
 }
 
-#[unsafe(no_mangle)]
-pub extern "C" fn qg_tdes_decipher(key: &[u8], block: &[u8], out: &mut [u8]) -> FaceReply
+pub fn qg_tdes_decipher(key: &[u8], block: &[u8], out: &mut [u8]) -> FaceReply
     ensures { Does (quietly (triple_call Way.Decipher key.now block.now (length out.old))) out.old (reply_in result) out.new × (pointer_in result ≡ nowhere) }
 {
     face::plain(ciphercalls::triple(Way::Decipher, key, block, out))
 }
 
-#[unsafe(no_mangle)]
-pub extern "C" fn qg_key_check(key: &[u8], out: &mut [u8]) -> FaceReply
+pub fn qg_key_check(key: &[u8], out: &mut [u8]) -> FaceReply
     ensures { Does (quietly (key_check key.now (length out.old))) out.old (reply_in result) out.new × (pointer_in result ≡ nowhere) }
 {
     face::plain(ciphercalls::key_check(key, out))
 }
 
-#[unsafe(no_mangle)]
-pub extern "C" fn qg_odd_parity(key: &[u8]) -> u8
+pub fn qg_odd_parity(key: &[u8]) -> u8
     ensures { result ≡ flag_of (odd_parity key.now) }
 {
     face::flag(parity::odd_parity(key))
 }
 
-#[unsafe(no_mangle)]
-pub extern "C" fn qg_lab_answer(
+pub fn qg_lab_answer(
     settings: FaceSettings,
     command: &[u8],
     pinkey: &[u8],
