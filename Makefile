@@ -5,7 +5,7 @@ check:
 	.ci/run
 
 prove:
-	rt check
+	rt all check
 
 setup:
 	.ci/setup
@@ -13,7 +13,7 @@ setup:
 archive header reference bench-compiles: setup
 	.ci/step $@
 
-claims reports courses:
+claims reports courses fmt:
 	.ci/step $@
 
 host openssl example installed: archive
@@ -34,8 +34,5 @@ bench: archive
 install uninstall:
 	.ci/step $@
 
-fmt:
-	rt fmt
-
 clean:
-	rm -rf target build reference/target bench/face/target
+	rm -rf target build crates/*/out reference/target bench/face/target
