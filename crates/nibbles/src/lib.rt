@@ -33,6 +33,7 @@ pub fn join(head: u64, n: usize, tail: u64) -> u64
 }
 
 // The byte that two neighbouring nibbles make.
+#[tactic(auto, using(crate::proofs::Rows::row_at_lt))]
 fn byte(w: u64, i: usize) -> u8
     requires { i < 8 }
     ensures { result ≡ get_or (packs (row 16 w)) i 0 }
@@ -47,10 +48,8 @@ pub fn row_of(bytes: &[u8]) -> u64
     ensures { result ≡ word (nibs bytes.now) }
 {
     let mut w: u64 = 0;
-    let mut i = 0;
-    while i < bytes.len() {
-        w = w + ((bytes[i] as u64) << (8 * i));
-        i += 1;
+    for (i, b) in bytes.iter().enumerate() {
+        w += (*b as u64) << (8 * i);
     }
     (w & LOW) * 16 + ((w >> 4) & LOW)
 }
@@ -60,22 +59,19 @@ pub fn put_bytes(w: u64, out: &mut [u8])
     requires { 8 ≤ length out.old }
     ensures { out.new ≡ packs (row 16 w) ++ drop 8 out.old }
 {
-    let mut i = 0;
-    while i < 8 {
+    for i in 0..8 {
         out[i] = byte(w, i);
-        i += 1;
     }
 }
 
 // Writes the first n nibbles of a row to `out`, one to a byte.
+#[tactic(auto, using(crate::proofs::Rows::row_at_lt))]
 pub fn put_nibbles(w: u64, n: usize, out: &mut [u8])
     requires { (n ≤ 16) × (n ≤ length out.old) }
     ensures { out.new ≡ row n w ++ drop n out.old }
 {
-    let mut i = 0;
-    while i < n {
+    for i in 0..n {
         out[i] = nibble(w, i) as u8;
-        i += 1;
     }
 }
 
@@ -84,16 +80,11 @@ pub fn run_end(w: u64, from: usize, to: usize, low: u64, high: u64) -> usize
     requires { (from ≤ to) × (to ≤ 16) }
     ensures { result ≡ from + length (leading (within low high) (slice from to (row 16 w))) }
 {
-    let mut i = from;
-    while i < to {
+    for i in from..to {
         let n = nibble(w, i);
-        if n < low {
+        if n < low || high < n {
             return i;
         }
-        if high < n {
-            return i;
-        }
-        i += 1;
     }
-    i
+    to
 }

@@ -1,21 +1,12 @@
 -- `nibbles::byte` meets its contract.
-use Prim.Native.Nat.{ℕ, ◌+◌, ◌*◌, ◌-◌}
+use Prim.Native.Nat.{ℕ, ◌+◌, ◌*◌}
 use native.Mathlib.Omega.{arith}
 use mathlib.Core.Path.{sym, ap₂, ◌∙◌, ◌≡◌, ap}
 use lib.ListN.{get_or}
-use Rattle.nibbles.proofs.Rows.{row_at_lt, row_length}
+use Rattle.nibbles.proofs.Rows.{row_length}
 use Rattle.nibbles.proofs.Bytes.{packs_at}
 use Rattle.nibbles.specs.Nibbles.{row}
 use Rattle.nibbles.proofs.byte.Goals as goal
-
-pub overflow_mul-result : goal.overflow_mul-result
-overflow_mul-result c = omega (arith, row_at_lt c.args.w (2 * c.args.i))
-
-pub overflow_add-result : goal.overflow_add-result
-overflow_add-result c = omega (arith, row_at_lt c.args.w (2 * c.args.i), row_at_lt c.args.w (2 * c.args.i + 1))
-
-pub overflow_cast-result : goal.overflow_cast-result
-overflow_cast-result c = omega (arith, row_at_lt c.args.w (2 * c.args.i), row_at_lt c.args.w (2 * c.args.i + 1))
 
 pub returns : goal.returns
 returns c =

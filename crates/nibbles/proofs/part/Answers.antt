@@ -1,16 +1,9 @@
 -- `nibbles::part` meets its contract.
 use Prim.Native.Nat.{ℕ, ◌/◌, ◌%◌, ◌^◌}
-use native.Mathlib.Omega.{arith}
 use mathlib.Core.Path.{sym, ap, ap₂, ◌∙◌}
-use Rattle.nibbles.proofs.Rows.{row_part, word_row, one_shifted, sixteen_power, sixteens}
+use Rattle.nibbles.proofs.Rows.{row_part, word_row, one_shifted, sixteen_power}
 use Rattle.nibbles.specs.Nibbles.{word}
 use Rattle.nibbles.proofs.part.Goals as goal
-
-pub overflow_shr-result : goal.overflow_shr-result
-overflow_shr-result c = omega arith
-
-pub nonzero_rem-result : goal.nonzero_rem-result
-nonzero_rem-result c = rw (one_shifted c.args.n c.requires.1) (sixteens c.args.n)
 
 pub returns : goal.returns
 returns c =

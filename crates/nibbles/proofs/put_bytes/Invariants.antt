@@ -1,5 +1,4 @@
 -- What `nibbles::put_bytes` keeps from turn to turn.
-use Prim.Native.Nat.{◌+◌, ◌≤◌, ◌-◌}
 use mathlib.Core.List.{◌++◌}
 use mathlib.Core.Path.{◌≡◌}
 use lib.ListN.{take, drop}
@@ -7,7 +6,4 @@ use Rattle.nibbles.specs.Nibbles.{row, packs}
 use Rattle.nibbles.proofs.put_bytes.Given as goal
 
 abbrev pub invariant-loop-i : goal.invariant-loop-i
-invariant-loop-i l = (l.i ≤ 8) × (l.out ≡ take l.i (packs (row 16 l.w)) ++ drop l.i l.initial.out)
-
-abbrev pub decreases-loop-i : goal.decreases-loop-i
-decreases-loop-i l = 8 - l.i
+invariant-loop-i l = l.out ≡ take l.i (packs (row 16 l.w)) ++ drop l.i l.initial.out

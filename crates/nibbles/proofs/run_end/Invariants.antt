@@ -1,5 +1,5 @@
 -- What `nibbles::run_end` keeps from turn to turn.
-use Prim.Native.Nat.{◌+◌, ◌≤◌, ◌-◌}
+use Prim.Native.Nat.{◌+◌}
 use mathlib.Core.Path.{◌≡◌}
 use lib.Seq.{slice}
 use lib.ListN.{length}
@@ -7,7 +7,5 @@ use Rattle.nibbles.specs.Nibbles.{row, within, leading}
 use Rattle.nibbles.proofs.run_end.Given as goal
 
 abbrev pub invariant-loop-i : goal.invariant-loop-i
-invariant-loop-i l = (l.from ≤ l.i) × (l.i ≤ l.to) × (l.from + length (leading (within l.low l.high) (slice l.from l.to (row 16 l.w))) ≡ l.i + length (leading (within l.low l.high) (slice l.i l.to (row 16 l.w))))
-
-abbrev pub decreases-loop-i : goal.decreases-loop-i
-decreases-loop-i l = l.to - l.i
+invariant-loop-i l =
+    l.from + length (leading (within l.low l.high) (slice l.from l.to (row 16 l.w))) ≡ l.i + length (leading (within l.low l.high) (slice l.i l.to (row 16 l.w)))
