@@ -1,15 +1,16 @@
 -- Laws of characters and classes.
 -- Assumes nothing.
 use Prim.Native.Nat.{ℕ, zero, suc, ◌+◌, ◌-◌, ◌%◌, ◌≤◌, ◌<◌}
-use native.Mathlib.Nat.{mod-lt, add-suc}
+use native.Mathlib.Nat.{mod-lt}
 use native.Mathlib.Omega.{arith}
-use borrow.Author.Tests.{eq-eqb, ne_eqb, lt-leb, leb-true}
+use borrow.Author.Tests.{lt-leb, leb-true}
 use native.Mathlib.Numerals.{add-one}
-use mathlib.Core.Path.{◌≡◌, refl, sym}
+use mathlib.Core.Path.{◌≡◌, refl, sym, ap}
 use mathlib.Core.List.{List, [], ◌∷◌}
 use mathlib.Core.Bool.{Bool, true, false, ◌&&◌, cond}
 use lib.ListN.{length, get_or, drop, drop_of_length-le}
-use lib.Seq.{drop-cons, slice, slice-cons, slice_empty}
+use lib.Seq.{drop-cons}
+use Rattle.std.specs.List.{starts_with}
 use lib.Dec.{leb, eqb, lit<}
 use Rattle.alphabet.specs.Alphabet.{admits, all_of, begins, value_of}
 use Rattle.alphabet.specs.declared.Class.{Class}
@@ -42,27 +43,29 @@ digit_at (c ∷ cs) (suc i) e h = digit_at cs i (both (admits Digit c) (all_of D
 
 -- ---- every character of a class
 
--- a verdict on the characters before, and what one more makes of it
-pub and_true : (b : Bool) → b ≡ (b && true)
-and_true true = refl
-and_true false = refl
-
-pub and_false : (b : Bool) → false ≡ (b && false)
-and_false true = refl
-and_false false = refl
-
 and_assoc : (a b c : Bool) → (a && (b && c)) ≡ ((a && b) && c)
 and_assoc true b c = refl
 and_assoc false b c = refl
 
-module _ (k : Class) (s : List ℕ) where
-  pub all_on : (good : Bool) (i to : ℕ) → i < to → to ≤ length s → (good && all_of k (slice i to s)) ≡ ((good && admits k (get_or s i 0)) && all_of k (slice (i + 1) to s))
-  unfolding all_of
-  all_on good i to h l = rw (slice-cons i to s 0 h l, add-one i) (and_assoc good (admits k (get_or s i 0)) (all_of k (slice (suc i) to s)))
+and_true : (b : Bool) → b ≡ (b && true)
+and_true true = refl
+and_true false = refl
 
-  pub all_over : (good : Bool) (to : ℕ) → (good && all_of k (slice to to s)) ≡ good
+module _ (k : Class) (cs : List ℕ) (good : Bool) (i : ℕ) where
+  -- a verdict on the characters before, and what one more makes of it
+  pub all_on : i < length cs → (good && all_of k (drop i cs)) ≡ ((good && admits k (get_or cs i 0)) && all_of k (drop (i + 1) cs))
   unfolding all_of
-  all_over good to = rw (slice_empty to s) (sym (and_true good))
+  all_on h = rw (drop-cons cs i 0 h, add-one i) (and_assoc good (admits k (get_or cs i 0)) (all_of k (drop (suc i) cs)))
+
+  pub all_over : length cs ≤ i → (good && all_of k (drop i cs)) ≡ good
+  unfolding all_of
+  all_over h = rw (drop_of_length-le cs h) (sym (and_true good))
+
+-- ---- a fixed text at the beginning
+
+and_false : (b : Bool) → false ≡ (b && false)
+and_false true = refl
+and_false false = refl
 
 -- too few characters
 pub begins_short : (ts cs : List ℕ) → length cs < length ts → begins ts cs ≡ false
@@ -71,18 +74,8 @@ begins_short [] cs h = absurd (omega arith)
 begins_short (t ∷ ts) [] h = refl
 begins_short (t ∷ ts) (c ∷ cs) h = rw (begins_short ts cs (omega arith)) (sym (and_false (eqb t c)))
 
-module _ (ts cs : List ℕ) (i from : ℕ) (here : i < length ts) (there : from + i < length cs) where
-  -- one more character of the text, or another one
-  opened : begins (drop i ts) (drop (from + i) cs) ≡ (eqb (get_or ts i 0) (get_or cs (from + i) 0) && begins (drop (i + 1) ts) (drop (from + (i + 1)) cs))
-  unfolding begins
-  opened = rw (drop-cons ts i 0 here, drop-cons cs (from + i) 0 there, add-one i, add-suc from i)
-
-  pub begins_on : get_or cs (from + i) 0 ≡ get_or ts i 0 → begins (drop i ts) (drop (from + i) cs) ≡ begins (drop (i + 1) ts) (drop (from + (i + 1)) cs)
-  begins_on e = rw (opened, eq-eqb (get_or ts i 0) (get_or cs (from + i) 0) (sym e))
-
-  pub begins_stop : (get_or cs (from + i) 0 ≡ get_or ts i 0 → ⊥) → begins (drop i ts) (drop (from + i) cs) ≡ false
-  begins_stop h = rw (opened, ne_eqb (get_or ts i 0) (get_or cs (from + i) 0) (λ e. h (sym e)))
-
-pub begins_over : (ts cs : List ℕ) (i : ℕ) → length ts ≤ i → begins (drop i ts) cs ≡ true
+pub begins_is : (ts cs : List ℕ) → begins ts cs ≡ starts_with eqb cs ts
 unfolding begins
-begins_over ts cs i h = rw (drop_of_length-le ts h)
+begins_is [] cs = refl
+begins_is (t ∷ ts) [] = refl
+begins_is (t ∷ ts) (c ∷ cs) = ap (λ (b : Bool). eqb t c && b) (begins_is ts cs)

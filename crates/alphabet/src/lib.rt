@@ -12,20 +12,14 @@ pub enum Class {
     Printable,
 }
 
-fn between(c: u8, low: u8, high: u8) -> bool
-    ensures { result ≡ Rattle.alphabet.specs.Alphabet.between low high c }
-{
-    low <= c && c <= high
-}
-
 impl Class {
     pub fn admits(self, c: u8) -> bool
         ensures { result ≡ admits self c }
     {
         match self {
-            Class::Digit => between(c, b'0', b'9'),
-            Class::CapitalHex => between(c, b'0', b'9') || between(c, b'A', b'F'),
-            Class::Printable => between(c, 0x20, 0x7e),
+            Class::Digit => matches!(c, b'0'..=b'9'),
+            Class::CapitalHex => matches!(c, b'0'..=b'9' | b'A'..=b'F'),
+            Class::Printable => matches!(c, 0x20..=0x7e),
         }
     }
 }
@@ -37,12 +31,8 @@ pub fn all_of(class: Class, s: &[u8], from: usize, to: usize) -> bool
     ensures { result ≡ all_of class (slice from to s.now) }
 {
     let mut good = true;
-    let mut i = from;
-    while i < to {
-        if !class.admits(s[i]) {
-            good = false;
-        }
-        i += 1;
+    for c in &s[from..to] {
+        good &= class.admits(*c);
     }
     good
 }
@@ -51,30 +41,19 @@ pub fn all_of(class: Class, s: &[u8], from: usize, to: usize) -> bool
 pub fn ahead(s: &[u8], from: usize) -> usize
     ensures { result ≡ length s.now - from }
 {
-    if s.len() < from {
-        return 0;
-    }
-    s.len() - from
+    s.len().saturating_sub(from)
 }
 
-// Whether a fixed text stands at a place.
+// Whether a fixed text stands at a place. Most do not: `==` looks at the first bytes before it calls anything, `starts_with` does not.
 pub fn has_at(s: &[u8], from: usize, text: &[u8]) -> bool
     ensures { result ≡ begins text.now (drop from s.now) }
 {
-    if ahead(s, from) < text.len() {
-        return false;
-    }
-    let mut i = 0;
-    while i < text.len() {
-        if s[from + i] != text[i] {
-            return false;
-        }
-        i += 1;
-    }
-    true
+    let rest = &s[from.min(s.len())..];
+    text.len() <= rest.len() && text == &rest[..text.len()]
 }
 
 // What a digit or a hex letter stands for.
+#[tactic(auto, unfolding(crate::specs::Alphabet::value_of))]
 pub fn value(c: u8) -> u8
     ensures { result ≡ value_of c }
 {

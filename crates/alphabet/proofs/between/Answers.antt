@@ -1,9 +1,0 @@
--- `alphabet::between` meets its contract.
-use borrow.Author.Tests.{le-leb, lt-leb}
-use Rattle.alphabet.proofs.between.Goals as goal
-
-pub returns-then-low-c : goal.returns-then-low-c
-returns-then-low-c c = rw (le-leb _ _ c.if-low-c.true)
-
-pub returns-else-low-c : goal.returns-else-low-c
-returns-else-low-c c = rw (lt-leb _ _ c.if-low-c.false)
