@@ -1,36 +1,32 @@
 -- `spelling::class_end` meets its contract.
-use Prim.Native.Nat.{ℕ, ◌+◌, ◌-◌}
-use native.Mathlib.Nat.{add-zero}
-use native.Mathlib.Omega.{arith}
-use mathlib.Core.Path.{◌≡◌, sym, ap, ◌∙◌}
-use lib.ListN.{length, drop}
-use borrow.Author.Rules.{rules}
-use Rattle.nibbles.proofs.Runs.{lead_on, lead_stop, lead_over}
+use Prim.Native.Nat.{ℕ, ◌+◌}
+use native.Mathlib.Numerals.{add-one}
+use mathlib.Core.Path.{◌≡◌, refl, sym, ◌∙◌}
+use mathlib.Core.List.{List, [], ◌∷◌}
+use mathlib.Core.Bool.{Bool, true, false}
+use lib.ListN.{length}
+use Rattle.std.proofs.Common.{rules, tests}
+use Rattle.std.proofs.lemmas.Iterator.{YieldsList-from_slice, IsFirst-from_position, index_from_first}
 use Rattle.alphabet.specs.Alphabet.{admits}
 use Rattle.nibbles.specs.Nibbles.{leading}
 use Rattle.spelling.proofs.class_end.Goals as goal
 
-pub loop-i-init : goal.loop-i-init
-loop-i-init c = (search rules, omega arith)
+-- how many stand at the beginning, by the first that does not pass
+stops : (p : ℕ → Bool) (x : ℕ) (xs : List ℕ) → p x ≡ false → length (leading p (x ∷ xs)) ≡ 0
+unfolding leading
+stops p x xs e = rw e
 
-pub returns-then-not-admits : goal.returns-then-not-admits
-returns-then-not-admits c =
-    let a = c.args in
-    let l = c.loop-i in
-    let stop = lead_stop (admits a.class) a.s.now l.i (omega arith) (sym c.admits.ensures ∙ c.if-not-admits.true) in
-    omega (arith, l.invariant.1)
+goes_on : (p : ℕ → Bool) (x : ℕ) (xs : List ℕ) → p x ≡ true → length (leading p (x ∷ xs)) ≡ length (leading p xs) + 1
+unfolding leading
+goes_on p x xs e = rw (e, add-one (length (leading p xs)))
 
-pub loop-i-preserved : goal.loop-i-preserved
-loop-i-preserved c =
-    let a = c.args in
-    let l = c.loop-i in
-    let more = lead_on (admits a.class) a.s.now l.i (omega arith) (sym c.admits.ensures ∙ c.if-not-admits.false) in
-    (omega arith, omega (arith, l.invariant.1))
+none : (p : ℕ → Bool) → length (leading p []) ≡ 0
+unfolding leading
+none p = refl
 
 pub returns : goal.returns
 returns c =
-    let a = c.args in
-    let l = c.loop-i in
-    let end : l.i ≡ length a.s.now = omega arith in
-    sym (l.invariant.1 ∙ ap (λ (k : ℕ). l.i + length (leading (admits a.class) (drop k a.s.now))) end
-    ∙ ap (λ (k : ℕ). l.i + k) (lead_over (admits a.class) a.s.now) ∙ add-zero l.i)
+    let p = admits c.args.class in
+    let first = IsFirst-from_position _ _ c.position.result (λ x. p x ≡ false) (λ x. p x ≡ true) c.position.ensures.ran (YieldsList-from_slice c.args.s.now (cc))
+    (λ x q k. search (rules, tests)) (λ x q k. search (rules, tests)) in
+    c.unwrap_or.ensures ∙ sym (index_from_first (λ xs. length (leading p xs)) (λ x. p x ≡ false) (λ x. p x ≡ true) (none p) (stops p) (goes_on p) c.args.s.now _ first)
