@@ -59,27 +59,13 @@ impl Format {
     pub fn veiled(self) -> bool
         ensures { result ≡ veiled self }
     {
-        match self {
-            Format::F01 => true,
-            Format::F03 => false,
-            Format::F05 => false,
-            Format::F34 => false,
-            Format::F35 => true,
-            Format::F47 => true,
-        }
+        matches!(self, Format::F01 | Format::F35 | Format::F47)
     }
 
     pub fn is_01_or_47(self) -> bool
         ensures { result ≡ is01or47 self }
     {
-        match self {
-            Format::F01 => true,
-            Format::F03 => false,
-            Format::F05 => false,
-            Format::F34 => false,
-            Format::F35 => false,
-            Format::F47 => true,
-        }
+        matches!(self, Format::F01 | Format::F47)
     }
 }
 

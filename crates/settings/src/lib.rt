@@ -34,30 +34,18 @@ impl Settings {
     pub fn with_header(self, header: usize) -> Self
         ensures { result ≡ headed self header }
     {
-        Settings {
-            header,
-            restricted: self.restricted,
-            variable: self.variable,
-        }
+        Settings { header, ..self }
     }
 
     pub fn with_restricted(self, restricted: bool) -> Self
         ensures { result ≡ restricted_to self restricted }
     {
-        Settings {
-            header: self.header,
-            restricted,
-            variable: self.variable,
-        }
+        Settings { restricted, ..self }
     }
 
     pub fn with_variable(self, variable: bool) -> Self
         ensures { result ≡ variably self variable }
     {
-        Settings {
-            header: self.header,
-            restricted: self.restricted,
-            variable,
-        }
+        Settings { variable, ..self }
     }
 }
