@@ -55,10 +55,6 @@ bk_answers_bl = code_answered 0x42 0x4B
 
 -- ---- a buffer that is written from its beginning, piece after piece
 
--- the beginning of a list written over that of another keeps the other's length
-pub over_length : {A : Type 0} (ws d : List A) (j : ℕ) → j ≤ length ws → j ≤ length d → length (take j ws ++ drop j d) ≡ length d
-over_length ws d j p q = simp (length-append, length-take-le j ws p, length-drop) (omega arith)
-
 module _ {A : Type 0} (ws ps before after : List A) (at n : ℕ) (whole : length ws ≡ at) (e : after ≡ ws ++ drop at before) where
   -- a piece written over what lies behind those before it
   pub over_more : take at after ++ (ps ++ drop n (drop at after)) ≡ (ws ++ ps) ++ drop (at + n) before

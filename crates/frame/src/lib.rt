@@ -9,12 +9,6 @@ use settings::Settings;
 
 const LONGEST_COMMAND: usize = 4096;
 
-const BK: [u8; 2] = *b"BK";
-
-const DA: [u8; 2] = *b"DA";
-
-const EA: [u8; 2] = *b"EA";
-
 // The commands that there are, by their codes.
 #[derive(Clone, Copy)]
 pub enum Code {
@@ -29,16 +23,13 @@ impl Code {
     pub fn at(command: &[u8], at: usize) -> Code
         ensures { result ≡ code_of (drop at command.now) }
     {
-        let bk = BK;
-        let da = DA;
-        let ea = EA;
-        if alphabet::has_at(command, at, &bk) {
+        if alphabet::has_at(command, at, b"BK") {
             return Code::Bk;
         }
-        if alphabet::has_at(command, at, &da) {
+        if alphabet::has_at(command, at, b"DA") {
             return Code::Da;
         }
-        if alphabet::has_at(command, at, &ea) {
+        if alphabet::has_at(command, at, b"EA") {
             return Code::Ea;
         }
         Code::Other
@@ -49,16 +40,10 @@ impl Code {
 pub fn is_framed(header: usize, command: &[u8]) -> bool
     ensures { result ≡ is_framed header command.now }
 {
-    if Settings::LONGEST_HEADER < header {
-        return false;
-    }
-    if LONGEST_COMMAND < command.len() {
-        return false;
-    }
-    if command.len() < header + 2 {
-        return false;
-    }
-    alphabet::all_of(Class::Printable, command, 0, header)
+    header <= Settings::LONGEST_HEADER
+        && command.len() <= LONGEST_COMMAND
+        && header + 2 <= command.len()
+        && alphabet::all_of(Class::Printable, command, 0, header)
 }
 
 // Writes a run over the beginning of the output.
@@ -66,11 +51,7 @@ pub fn put_run(run: &[u8], out: &mut [u8])
     requires { length run.now ≤ length out.old }
     ensures { out.new ≡ run.now ++ drop (length run.now) out.old }
 {
-    let mut i = 0;
-    while i < run.len() {
-        out[i] = run[i];
-        i += 1;
-    }
+    out[..run.len()].copy_from_slice(run);
 }
 
 // Writes response code and two-digit number over the beginning of the output.
@@ -78,12 +59,11 @@ pub fn put_code(header: usize, command: &[u8], number: u32, out: &mut [u8])
     requires { (header + 2 ≤ length command.now) × (4 ≤ length out.old) }
     ensures { out.new ≡ (get_or command.now header 0 ∷ raised (get_or command.now (header + 1) 0) ∷ in_two_digits number) ++ drop 4 out.old }
 {
-    let next = header + 1;
     let tens = number / 10 % 10;
     let ones = number % 10;
     let code = [
         command[header],
-        ((command[next] as u32 + 1) % 256) as u8,
+        command[header + 1].wrapping_add(1),
         (0x30 + tens) as u8,
         (0x30 + ones) as u8,
     ];

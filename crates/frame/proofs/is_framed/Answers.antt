@@ -1,40 +1,24 @@
 -- `frame::is_framed` meets its contract.
-use Prim.Native.Nat.{◌+◌}
 use lib.ListN.{length}
-use borrow.Author.Tests.{le-leb, lt-leb}
-use Rattle.frame.specs.Frame.{is_framed, longest_command}
+use borrow.Author.Tests.{le-leb}
+use Rattle.std.proofs.Common.{arith}
+use Rattle.std.proofs.lemmas.Bool.Decides.{nat_tests}
 use Rattle.settings.specs.Settings.{longest_header}
+use Rattle.frame.specs.Frame.{is_framed, longest_command}
 use Rattle.frame.proofs.is_framed.Goals as goal
+use Rattle.frame.proofs.is_framed.Goals.{then-command-le-LONGEST_COMMAND, else-command-le-LONGEST_COMMAND}
 
-pub returns-then-header-gt-LONGEST_HEADER : goal.returns-then-header-gt-LONGEST_HEADER
+pub returns-then-header-command : goal.returns-then-header-command
 unfolding is_framed
-returns-then-header-gt-LONGEST_HEADER c =
+returns-then-header-command c =
     let a = c.args in
-    rw (lt-leb a.header longest_header c.if-header-gt-LONGEST_HEADER.true)
+    elim c.if-command-le-LONGEST_COMMAND.branch [
+      | then-command-le-LONGEST_COMMAND w ↦
+          let within = w.if-command-le-LONGEST_COMMAND.true in
+          rw (le-leb a.header longest_header within.0, le-leb (length a.command.now) longest_command within.1, ← w.value-is, c.if-header-command.true) c.all_of.ensures
+      | else-command-le-LONGEST_COMMAND w ↦ cc
+    ]
 
-pub returns-then-command-gt-LONGEST_COMMAND : goal.returns-then-command-gt-LONGEST_COMMAND
+pub returns-else-header-command : goal.returns-else-header-command
 unfolding is_framed
-returns-then-command-gt-LONGEST_COMMAND c =
-    let a = c.args in
-    rw (le-leb a.header longest_header c.if-header-gt-LONGEST_HEADER.false, lt-leb (length a.command.now) longest_command c.if-command-gt-LONGEST_COMMAND.true)
-
-pub returns-then-command-header : goal.returns-then-command-header
-unfolding is_framed
-returns-then-command-header c =
-    let a = c.args in
-    rw (
-      le-leb a.header longest_header c.if-header-gt-LONGEST_HEADER.false,
-      le-leb (length a.command.now) longest_command c.if-command-gt-LONGEST_COMMAND.false,
-      lt-leb (a.header + 2) (length a.command.now) c.if-command-header.true,
-    )
-
-pub returns : goal.returns
-unfolding is_framed
-returns c =
-    let a = c.args in
-    rw (
-      le-leb a.header longest_header c.if-header-gt-LONGEST_HEADER.false,
-      le-leb (length a.command.now) longest_command c.if-command-gt-LONGEST_COMMAND.false,
-      le-leb (a.header + 2) (length a.command.now) c.if-command-header.false,
-    )
-    c.all_of.ensures
+returns-else-header-command c = grind (arith, nat_tests)

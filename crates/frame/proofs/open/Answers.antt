@@ -2,22 +2,12 @@
 use Prim.Native.Nat.{ℕ, ◌+◌}
 use native.Mathlib.Omega.{arith}
 use mathlib.Core.List.{◌∷◌, ◌++◌}
-use mathlib.Core.Path.{sym, ap, ◌∙◌}
+use mathlib.Core.Path.{ap, ◌∙◌}
 use lib.ListN.{get_or, take, drop}
 use lib.Seq.{length-take-le}
 use Rattle.frame.proofs.Laws.{over_lent}
 use Rattle.frame.specs.Frame.{opening, raised, in_two_digits}
 use Rattle.frame.proofs.open.Goals as goal
-
-pub slice_bounds-put_run-end : goal.slice_bounds-put_run-end
-slice_bounds-put_run-end c =
-    let a = c.args in
-    sym (length-take-le a.header a.command.now (omega arith))
-
-pub put_run-requires : goal.put_run-requires
-put_run-requires c =
-    let a = c.args in
-    rw (length-take-le a.header a.command.now (omega arith)) (omega arith)
 
 pub returns : goal.returns
 unfolding opening
