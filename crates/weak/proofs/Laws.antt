@@ -1,7 +1,7 @@
 -- The laws of the search for a PIN on the weak list.
 -- Assumes nothing.
 use Prim.Native.Nat.{ℕ, zero, suc, ◌+◌, ◌-◌, ◌*◌, ◌%◌, ◌≤◌, ◌<◌}
-use native.Mathlib.Nat.{suc-mul, mul-le-mul_right}
+use native.Mathlib.Nat.{suc-mul}
 use native.Mathlib.Omega.{arith}
 use mathlib.Core.Path.{◌≡◌, refl, sym, ap, ◌∙◌}
 use mathlib.Core.List.{List, [], ◌∷◌, map}
@@ -15,8 +15,7 @@ use Rattle.nibbles.proofs.Lists.{and_left, and_right, same_false}
 use Rattle.alphabet.specs.Alphabet.{admits, all_of, begins, characters, value_of}
 use Rattle.alphabet.specs.declared.Class.TheVariants.{Digit}
 use Rattle.weak.specs.Weak.{entries, is_on}
-use Rattle.weak.specs.Answers.{Lies, lists}
-use Rattle.weak.specs.declared.Weak.{Weak}
+use Rattle.weak.specs.Answers.{lists}
 
 -- ---- an entry and a PIN
 
@@ -89,7 +88,3 @@ on_other pin n d (suc k) cs h =
     let room = rw suc-mul at h in
     let l : length (map value_of (take n cs)) ≡ n = length-map (take n cs) value_of ∙ length-take-le n cs (omega arith) in
     rw (same_false pin (map value_of (take n cs)) (λ e. d (ap length e ∙ l))) (on_other pin n d k (drop n cs) (rw length-drop (omega arith)))
-
--- an entry of a list that lies in the command lies in it
-pub entry_inside : (w : Weak) (s : List ℕ) (i : ℕ) → Lies w s → i < w.count → w.list + i * w.length + w.length ≤ length s
-entry_inside w s i l h = let most = mul-le-mul_right {m = i + 1} {n = w.count} w.length (omega arith) in let room = l.inside in omega arith

@@ -19,14 +19,10 @@ fn lists(weak: Weak, command: &[u8], text: &[u8]) -> bool
     requires { Lies weak command.now }
     ensures { result ≡ lists text.now weak.count weak.length (drop weak.list command.now) }
 {
-    let mut from = weak.list;
-    let mut i = 0;
-    while i < weak.count {
-        if alphabet::has_at(command, from, text) {
+    for i in 0..weak.count {
+        if alphabet::has_at(command, weak.list + i * weak.length, text) {
             return true;
         }
-        from += weak.length;
-        i += 1;
     }
     false
 }

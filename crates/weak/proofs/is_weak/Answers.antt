@@ -33,11 +33,6 @@ returns-then-weak-n c =
     sym (on_other (row a.n a.digits) a.weak.length (λ e. let alike = sym e ∙ row_length a.n a.digits in omega arith)
     a.weak.count (drop a.weak.list a.command.now) (rw length-drop (omega arith)))
 
-pub slice_bounds-lists-end : goal.slice_bounds-lists-end
-slice_bounds-lists-end c =
-    let a = c.args in
-    sym (ap length (written a.weak.length a.digits _ _ c.put_characters.ensures) ∙ characters_length a.weak.length a.digits)
-
 pub returns : goal.returns
 returns c =
     let a = c.args in
