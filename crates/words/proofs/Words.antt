@@ -1,16 +1,17 @@
 -- Laws of bytes and the number that they spell: each is settled by the other.
 -- Assumes nothing.
 use mathlib.Core.Path.{◌≡◌, refl, ◌∙◌, ap, ap₂, sym}
-use mathlib.Core.List.{List, [], ◌∷◌, ◌++◌}
-use Prim.Native.Nat.{ℕ, zero, suc, ◌+◌, ◌-◌, ◌*◌, ◌/◌, ◌%◌, ◌^◌, ◌<◌, ◌≤◌}
+use mathlib.Core.List.{List, [], ◌∷◌}
+use Prim.Native.Nat.{ℕ, zero, suc, ◌+◌, ◌*◌, ◌/◌, ◌%◌, ◌^◌, ◌<◌}
 use native.Mathlib.Omega.{arith}
-use native.Mathlib.Numerals.{add-one}
-use native.Mathlib.Nat.{mod-lt, mod-eq_of_lt, add-mul-div_right}
-use lib.ListN.{length, get_or, take, length-append}
-use lib.Seq.{take-suc}
+use native.Mathlib.Nat.{mod-lt, mod-eq_of_lt, add-mul-div_right, pow-suc}
+use lib.ListN.{length, get_or}
 use lib.Pow.{pow-add, mod-pow-add, pow_pos, high}
 use lib.Arith.{digits_lt}
 use Rattle.nibbles.proofs.Lists.{Below}
+use mir.Syntax.{w64}
+use Rattle.std.specs.Int.{byte_at, bytes_high_first, from_be_bytes}
+use Rattle.std.proofs.lemmas.Nat.{be_bytes_8}
 use Rattle.words.specs.Words.{spelled, in_bytes}
 
 -- ---- the bytes of a number
@@ -20,43 +21,12 @@ unfolding in_bytes
 length_bytes zero w = refl
 length_bytes (suc n) w = ap suc (length_bytes n w)
 
-pub bytes_at_lem : (n w i : ℕ) → i < n → get_or (in_bytes n w) i 0 ≡ w / 2 ^ (8 * (n - 1 - i)) % 256
-unfolding in_bytes
-bytes_at_lem zero w i h = absurd (omega arith)
-bytes_at_lem (suc n) w zero h = let e : n ≡ suc n - 1 - 0 = omega arith in ap (λ (m : ℕ). w / 2 ^ (8 * m) % 256) e
-bytes_at_lem (suc n) w (suc i) h =
-    let k : i < n = omega arith in
-    let e : n - 1 - i ≡ suc n - 1 - suc i = omega arith in
-    bytes_at_lem n w i k ∙ ap (λ (m : ℕ). w / 2 ^ (8 * m) % 256) e
-
 pub bytes_below : (n w : ℕ) → Below 256 (in_bytes n w)
 unfolding in_bytes
 bytes_below zero w = tt
 bytes_below (suc n) w = (mod-lt (w / 2 ^ (8 * n)) (omega arith), bytes_below n w)
 
--- ---- the number of a run, byte after byte
-
-spelled_snoc : (bs : List ℕ) (b : ℕ) → spelled (bs ++ (b ∷ [])) ≡ spelled bs * 256 + b
-unfolding spelled
-spelled_snoc [] b = let h : b * 2 ^ (8 * 0) + 0 ≡ 0 * 256 + b = omega arith in h
-spelled_snoc (a ∷ bs) b =
-    let e : 8 * (length bs + 1) ≡ 8 * length bs + 8 = omega arith in
-    let h : a * 2 ^ (8 * length (bs ++ (b ∷ []))) + spelled (bs ++ (b ∷ [])) ≡ (a * 2 ^ (8 * length bs) + spelled bs) * 256 + b =
-    rw (length-append, e, pow-add, spelled_snoc bs b) (omega arith)
-    in
-    h
-
-module _ (bs : List ℕ) (fits : (i : ℕ) → get_or bs i 0 < 256) where
-  pub spelled_next : (i w : ℕ) → i < length bs → w ≡ spelled (take i bs) → w * 256 + get_or bs i 0 ≡ spelled (take (i + 1) bs)
-  spelled_next i w h e = rw (add-one, take-suc bs i 0, spelled_snoc, e)
-
-  pub spelled_take_lt : (i : ℕ) → i ≤ length bs → spelled (take i bs) < 2 ^ (8 * i)
-  unfolding spelled
-  spelled_take_lt zero h = let z : 0 < 2 ^ (8 * 0) = omega arith in z
-  spelled_take_lt (suc i) h =
-      let k : i < length bs = omega arith in
-      let e : 8 * suc i ≡ 8 * i + 8 = omega arith in
-      rw (take-suc bs i 0, spelled_snoc, e, pow-add) (digits_lt (spelled_take_lt i (omega arith)) (fits i))
+-- ---- the number of a run
 
 pub spelled_lt : (bs : List ℕ) → Below 256 bs → spelled bs < 2 ^ (8 * length bs)
 unfolding spelled
@@ -98,3 +68,22 @@ bytes_spelled (b ∷ bs) h =
     ap₂ (λ (x : ℕ) (l : List ℕ). x ∷ l)
     (ap (λ (x : ℕ). x % 256) (high b (8 * length bs) (spelled_lt bs h.1)) ∙ mod-eq_of_lt h.0)
     (bytes_above (length bs) b (spelled bs) ∙ bytes_spelled bs h.1)
+
+-- ---- the library's bytes of a number
+
+power : (i : ℕ) → 2 ^ (8 * i) ≡ 256 ^ i
+power zero = refl
+power (suc i) = ap (λ (k : ℕ). 2 ^ k) (omega arith) ∙ pow-add 2 (8 * i) 8 ∙ ap (λ (x : ℕ). x * 256) (power i) ∙ sym (pow-suc 256 i)
+
+at_place : (i w : ℕ) → w / 2 ^ (8 * i) % 256 ≡ byte_at i w
+at_place zero w = omega arith
+at_place (suc i) w = ap (λ (x : ℕ). w / x % 256) (power (suc i))
+
+pub high_first : (n w : ℕ) → in_bytes n w ≡ bytes_high_first n w
+unfolding in_bytes
+high_first zero w = refl
+high_first (suc n) w = ap₂ (λ (b : ℕ) (bs : List ℕ). b ∷ bs) (at_place n w) (high_first n w)
+
+pub spelled_from : (bs : List ℕ) (w : ℕ) → length bs ≡ 8 → ((i : ℕ) → get_or bs i 0 < 256) → w < 2 ^ 64 → w ≡ from_be_bytes w64 bs → w ≡ spelled bs
+spelled_from bs w long small fits e =
+    sym (mod-eq_of_lt fits) ∙ sym (spelled_bytes 8 w) ∙ ap spelled (high_first 8 w ∙ be_bytes_8 bs w long small e)
