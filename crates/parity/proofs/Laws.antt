@@ -1,15 +1,14 @@
 -- Folding a byte counts its ones, by twos: a test over the 256 bytes.
 -- Assumes nothing.
-use Prim.Native.Nat.{ℕ, zero, suc, ◌+◌, ◌%◌, ◌<◌}
+use Prim.Native.Nat.{ℕ, zero, suc, ◌%◌, ◌<◌}
 use native.Mathlib.Omega.{arith}
 use native.Mathlib.Nat.{eq-or-lt_of_le, le_of_suc-le-suc}
-use mathlib.Core.Path.{◌≡◌, refl, ◌∙◌, ap}
+use mathlib.Core.Path.{◌≡◌, refl, ap}
 use mathlib.Core.Bool.{Bool, true, ◌&&◌}
 use mathlib.Core.Logic.{◌⊎◌, inl, inr}
-use mathlib.Core.List.{List}
+use mathlib.Core.List.{List, [], ◌∷◌}
+use Rattle.std.specs.List.{list_all}
 use lib.Dec.{eqb}
-use lib.ListN.{length, get_or, drop}
-use lib.Seq.{drop-cons}
 use borrow.Author.Tests.{eqb-true}
 use Rattle.nibbles.specs.Nibbles.{every}
 use Rattle.nibbles.proofs.Lists.{and_left, and_right}
@@ -40,9 +39,8 @@ pub folded_ones : (b : ℕ) → b < 256 → folded b ≡ ones 8 b % 2
 unfolding same_parity
 folded_ones b h = eqb-true (folded b) (ones 8 b % 2) (under_at same_parity 256 test b h)
 
--- a key from place i on: that byte and the rest
-pub parity_next : (key : List ℕ) (i : ℕ) → i < length key → odd_parity (drop i key) ≡ is_odd (get_or key i 0) && odd_parity (drop (i + 1) key)
+-- every byte of a key, in the library's word
+pub all_odd : (key : List ℕ) → list_all is_odd key ≡ odd_parity key
 unfolding odd_parity every
-parity_next key i h =
-    let e : suc i ≡ i + 1 = omega arith in
-    ap odd_parity (drop-cons key i 0 h) ∙ ap (λ (n : ℕ). is_odd (get_or key i 0) && odd_parity (drop n key)) e
+all_odd [] = refl
+all_odd (b ∷ key) = ap (λ (rest : Bool). is_odd b && rest) (all_odd key)

@@ -5,6 +5,7 @@ ghost use Rattle.std.specs.Prelude.{◌≡◌};
 ghost use Rattle.parity.specs.Parity.{is_odd, odd_parity, folded};
 
 // A byte folded upon itself three times: its last bit is then the exclusive or of all eight.
+#[tactic(auto, unfolding(crate::specs::Parity::folded))]
 fn fold(b: u8) -> u8
     ensures { result ≡ folded b }
 {
@@ -23,12 +24,5 @@ fn is_odd(b: u8) -> bool
 pub fn odd_parity(key: &[u8]) -> bool
     ensures { result ≡ odd_parity key.now }
 {
-    let mut i = 0;
-    while i < key.len() {
-        if !is_odd(key[i]) {
-            return false;
-        }
-        i += 1;
-    }
-    true
+    key.iter().all(|b| is_odd(*b))
 }
