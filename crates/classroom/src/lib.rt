@@ -13,6 +13,7 @@ pub const COMMAND: [u8; 135] =
 pub const ENCIPHERED: [u8; 8] = [0x9f, 0x3c, 0x0a, 0x71, 0x00, 0x00, 0x00, 0x00];
 
 // A nibble as a capital hex character.
+#[tactic(auto, unfolding(crate::specs::Text::character_of))]
 fn character(nibble: u64) -> u8
     requires { nibble < 16 }
     ensures { result ≡ character_of nibble }
@@ -24,15 +25,14 @@ fn character(nibble: u64) -> u8
 }
 
 // A block as the host writes it in a command: 16 hex.
+#[tactic(auto, using(nibbles::proofs::Rows::row_at_lt))]
 pub fn hex(block: [u8; 8]) -> [u8; 16]
     ensures { result ≡ spelled block }
 {
     let row = nibbles::row_of(&block);
     let mut text = [0u8; 16];
-    let mut i = 0;
-    while i < 16 {
+    for i in 0..16 {
         text[i] = character(nibbles::nibble(row, i));
-        i += 1;
     }
     text
 }

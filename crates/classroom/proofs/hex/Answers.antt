@@ -1,13 +1,13 @@
 -- `classroom::hex` meets its contract.
-use Prim.Native.Nat.{ℕ, ◌+◌, ◌-◌}
+use Prim.Native.Nat.{ℕ, ◌+◌}
 use native.Mathlib.Omega.{arith}
 use mathlib.Core.List.{List, map, append-nil}
-use mathlib.Core.Path.{◌≡◌, sym, ap, refl, ◌∙◌}
+use mathlib.Core.Path.{◌≡◌, sym, ap, ◌∙◌}
 use lib.ListN.{length, length-map}
 use borrow.Author.Rules.{rules}
 use Rattle.nibbles.specs.Nibbles.{row, word, nibs}
 use Rattle.nibbles.proofs.Lists.{over_step, over_end, map_at, Below}
-use Rattle.nibbles.proofs.Rows.{row_length, row_at_lt, row_word}
+use Rattle.nibbles.proofs.Rows.{row_length, row_word}
 use Rattle.nibbles.proofs.Bytes.{nibs_length, nibs_below, bytes_below}
 use Rattle.classroom.specs.Text.{character_of}
 use Rattle.classroom.proofs.hex.Goals as goal
@@ -22,28 +22,18 @@ block_row bs w l b e =
     let whole : 16 ≡ length (nibs bs) = sym (nibs_length bs ∙ ap (λ (n : ℕ). n + n) l) in
     ap (row 16) e ∙ ap (λ (n : ℕ). row n (word (nibs bs))) whole ∙ row_word (nibs bs) (nibs_below bs b)
 
-pub loop-i-init : goal.loop-i-init
-loop-i-init c = (search rules, refl)
-
-pub character-requires : goal.character-requires
-character-requires c = omega (arith, row_at_lt c.row_of-row.result c.loop-i.i, c.nibble.ensures)
-
 pub loop-i-preserved : goal.loop-i-preserved
 loop-i-preserved c =
     let w = c.row_of-row.result in
-    let l = c.loop-i in (
-      omega arith,
-      over_step (map character_of (row 16 w)) _ l.text l.i c.character.result 0 (rw (text_length w) (omega arith)) (omega arith) l.invariant.1
-          (c.character.ensures
-          ∙ ap character_of c.nibble.ensures
-          ∙ sym (map_at character_of (row 16 w) l.i 0 0 (rw (row_length 16 w) (omega arith)))),
-    )
+    let l = c.loop-i in
+    over_step (map character_of (row 16 w)) _ l.text l.i c.character.result 0 (rw (text_length w) (omega arith)) (omega arith) l.invariant
+    (c.character.ensures ∙ ap character_of c.nibble.ensures ∙ sym (map_at character_of (row 16 w) l.i 0 0 (rw (row_length 16 w) (omega arith))))
 
 pub returns : goal.returns
 returns c =
     let block = c.args.block in
     let w = c.row_of-row.result in
     let l = c.loop-i in
-    over_end (map character_of (row 16 w)) _ l.text l.i 16 (text_length w) (omega arith) (omega arith) l.invariant.1
+    over_end (map character_of (row 16 w)) _ l.text l.i 16 (text_length w) (omega arith) (omega arith) l.invariant
     ∙ append-nil _
     ∙ ap (map character_of) (block_row block w (search rules) (bytes_below block (λ i. search rules)) c.row_of-row.ensures)

@@ -1,5 +1,4 @@
 -- What `classroom::hex` keeps from turn to turn.
-use Prim.Native.Nat.{◌+◌, ◌≤◌, ◌-◌}
 use mathlib.Core.List.{◌++◌, map}
 use mathlib.Core.Path.{◌≡◌}
 use lib.ListN.{take, drop}
@@ -8,7 +7,4 @@ use Rattle.classroom.specs.Text.{character_of}
 use Rattle.classroom.proofs.hex.Given as goal
 
 abbrev pub invariant-loop-i : goal.invariant-loop-i
-invariant-loop-i l = (l.i ≤ 16) × (l.text ≡ take l.i (map character_of (row 16 l.row)) ++ drop l.i l.initial.text)
-
-abbrev pub decreases-loop-i : goal.decreases-loop-i
-decreases-loop-i l = 16 - l.i
+invariant-loop-i l = l.text ≡ take l.i (map character_of (row 16 l.row)) ++ drop l.i l.initial.text
