@@ -1,16 +1,8 @@
 // What a key block must permit: algorithm T, and a usage and a mode of what the key is for.
 #![tactic(auto)]
 
-ghost use Rattle.std.specs.Prelude.{◌≡◌, [], ◌∷◌, ◌+◌, ◌≤◌, length, drop};
+ghost use Rattle.std.specs.Prelude.{◌≡◌, ◌+◌, ◌≤◌, length, drop};
 ghost use Rattle.uses.specs.Uses.{usages_in, begins_one, modes_in, is_one, permits};
-
-const USAGE_P0: [u8; 2] = *b"P0";
-
-const USAGE_71: [u8; 2] = *b"71";
-
-const USAGE_72: [u8; 2] = *b"72";
-
-const USAGE_V1: [u8; 2] = *b"V1";
 
 // The usages that a key may have.
 #[derive(Clone, Copy)]
@@ -36,51 +28,32 @@ pub struct Use {
     pub modes: Modes,
 }
 
-// Whether one of two texts stands at a place.
-fn either_at(command: &[u8], at: usize, one: &[u8], other: &[u8]) -> bool
-    ensures { result ≡ begins_one (one.now ∷ (other.now ∷ [])) (drop at command.now) }
-{
-    alphabet::has_at(command, at, one) || alphabet::has_at(command, at, other)
-}
-
-// Whether a character is one of three.
-fn is_one_of(c: u8, first: u8, second: u8, third: u8) -> bool
-    ensures { result ≡ is_one (first ∷ second ∷ third ∷ []) c }
-{
-    c == first || c == second || c == third
-}
-
 impl Usages {
     // Whether one of these usages stands at a place.
+    #[tactic(auto, unfolding(crate::specs::Uses::begins_one))]
     fn stand_at(self, command: &[u8], at: usize) -> bool
         ensures { result ≡ begins_one (usages_in self) (drop at command.now) }
     {
-        let p0 = USAGE_P0;
-        let terminal = USAGE_71;
-        let zone = USAGE_72;
-        let v1 = USAGE_V1;
+        let stands = |usage: &[u8]| alphabet::has_at(command, at, usage);
         match self {
-            Usages::P0Or71Or72 => {
-                alphabet::has_at(command, at, &p0)
-                    || alphabet::has_at(command, at, &terminal)
-                    || alphabet::has_at(command, at, &zone)
-            }
-            Usages::P0Or71 => either_at(command, at, &p0, &terminal),
-            Usages::P0Or72 => either_at(command, at, &p0, &zone),
-            Usages::V1 => alphabet::has_at(command, at, &v1),
+            Usages::P0Or71Or72 => stands(b"P0") || stands(b"71") || stands(b"72"),
+            Usages::P0Or71 => stands(b"P0") || stands(b"71"),
+            Usages::P0Or72 => stands(b"P0") || stands(b"72"),
+            Usages::V1 => stands(b"V1"),
         }
     }
 }
 
 impl Modes {
     // Whether a mode is one of these.
+    #[tactic(auto, unfolding(crate::specs::Uses::is_one))]
     fn has(self, mode: u8) -> bool
         ensures { result ≡ is_one (modes_in self) mode }
     {
         match self {
-            Modes::BOrDOrN => is_one_of(mode, b'B', b'D', b'N'),
-            Modes::COrGOrN => is_one_of(mode, b'C', b'G', b'N'),
-            Modes::COrVOrN => is_one_of(mode, b'C', b'V', b'N'),
+            Modes::BOrDOrN => matches!(mode, b'B' | b'D' | b'N'),
+            Modes::COrGOrN => matches!(mode, b'C' | b'G' | b'N'),
+            Modes::COrVOrN => matches!(mode, b'C' | b'V' | b'N'),
         }
     }
 }
@@ -120,10 +93,8 @@ impl Use {
         requires { at + 9 ≤ length command.now }
         ensures { result ≡ permits self (drop at command.now) }
     {
-        let usages = self.usages;
-        let modes = self.modes;
-        let usage = usages.stand_at(command, at + 5);
-        let mode = modes.has(command[at + 8]);
-        usage && command[at + 7] == b'T' && mode
+        self.usages.stand_at(command, at + 5)
+            && command[at + 7] == b'T'
+            && self.modes.has(command[at + 8])
     }
 }
