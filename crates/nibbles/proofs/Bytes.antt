@@ -7,16 +7,19 @@ use native.Mathlib.Numerals.{add-one}
 use mathlib.Core.Path.{◌≡◌, refl, sym, ap, ap₂, ◌∙◌}
 use mathlib.Core.List.{List, [], ◌∷◌}
 use lib.ListN.{length, get_or, take}
-use lib.Seq.{length-take-le}
+use lib.Seq.{length-take-le, take_all}
 use lib.Dec.{lit<}
 use lib.Arith.{digits_div, digits_mod, digits_lt}
 use lib.Bits.{bit_and, and_block, and_mask}
 use lib.Pow.{pow-add, shl_exact}
+use mir.Syntax.{w64}
+use Rattle.std.specs.Int.{from_le_bytes, to_le_bytes}
+use Rattle.std.proofs.lemmas.Nat.{le_bytes_8}
 use mir.Val.{Fits}
 use mir.Syntax.{w8}
-use Rattle.nibbles.specs.Nibbles.{nibs, packs, word}
+use Rattle.nibbles.specs.Nibbles.{nibs, packs, word, row}
 use Rattle.nibbles.proofs.Lists.{Below, below_each, below_at, below_take}
-use Rattle.nibbles.proofs.Rows.{word_fits}
+use Rattle.nibbles.proofs.Rows.{word_fits, word_back, row_length, row_below}
 
 -- what owning a slice of bytes tells of it
 pub bytes_below : (bs : List ℕ) → ((i : ℕ) → Fits w8 (get_or bs i 0)) → Below 256 bs
@@ -78,21 +81,38 @@ unfoldable pub lows : ℕ → ℕ
 lows zero = 0
 lows (suc k) = lows k * 256 + 15
 
--- the two nibbles of each byte change places
-pub exchanged : (k : ℕ) (bs : List ℕ) → Below 256 bs → length bs ≤ k → bit_and (gathered bs) (lows k) * 16 + bit_and (gathered bs / 16) (lows k) ≡ word (nibs bs)
-unfolding word nibs gathered lows
-exchanged k [] b h = refl
-exchanged zero (x ∷ bs) b h = absurd (omega arith)
-exchanged (suc k) (x ∷ bs) b h =
-    let ih = exchanged k bs b.1 (le_of_suc-le-suc h) in
-    let small = b.0 in
-    let w = gathered bs in
+-- the two nibbles of a word's lowest byte change places, and those above it do
+lowest : (k w x : ℕ) → x < 256 → bit_and (w * 256 + x) (lows (suc k)) * 16 + bit_and ((w * 256 + x) / 16) (lows (suc k)) ≡ (bit_and w (lows k) * 16 + bit_and (w / 16) (lows k)) * 256 + (x % 16 * 16 + x / 16)
+unfolding lows
+lowest k w x small =
     let low = and_block 8 w (lows k) x 15 small (lit< tt) ∙ ap (λ (y : ℕ). bit_and w (lows k) * 256 + y) (and_mask x 4) in
     let split : (w * 256 + x) / 16 ≡ w / 16 * 256 + (w % 16 * 16 + x / 16) = omega arith in
     let high =
     ap (λ (y : ℕ). bit_and y (lows k * 256 + 15)) split ∙ and_block 8 (w / 16) (lows k) (w % 16 * 16 + x / 16) 15 (omega arith) (lit< tt)
     ∙ ap (λ (y : ℕ). bit_and (w / 16) (lows k) * 256 + y) (and_mask (w % 16 * 16 + x / 16) 4) in
-    omega (arith, ih, low, high, small)
+    omega (arith, low, high, small)
+
+-- so bytes that were gathered become the word of their nibbles
+pub exchanged : (k : ℕ) (bs : List ℕ) → Below 256 bs → length bs ≤ k → bit_and (gathered bs) (lows k) * 16 + bit_and (gathered bs / 16) (lows k) ≡ word (nibs bs)
+unfolding word nibs gathered lows
+exchanged k [] b h = refl
+exchanged zero (x ∷ bs) b h = absurd (omega arith)
+exchanged (suc k) (x ∷ bs) b h = omega (arith, exchanged k bs b.1 (le_of_suc-le-suc h), lowest k (gathered bs) x b.0)
+
+-- and the word of nibbles those that pack them
+pub exchanged_back : (k : ℕ) (ns : List ℕ) → Below 16 ns → length ns ≡ k + k → bit_and (word ns) (lows k) * 16 + bit_and (word ns / 16) (lows k) ≡ gathered (packs ns)
+unfolding word packs gathered lows
+exchanged_back zero [] b h = refl
+exchanged_back (suc k) [] b h = absurd (omega arith)
+exchanged_back k (a ∷ []) b h = absurd (omega arith)
+exchanged_back zero (a ∷ l ∷ ns) b h = absurd (omega arith)
+exchanged_back (suc k) (a ∷ l ∷ ns) b h =
+    let ih = exchanged_back k ns b.1.1 (omega arith) in
+    let first = b.0 in
+    let second = b.1.0 in
+    let step = lowest k (word ns) (l * 16 + a) (omega arith) in
+    let whole : (word ns * 16 + l) * 16 + a ≡ word ns * 256 + (l * 16 + a) = omega arith in
+    rw whole (omega (arith, ih, step))
 
 -- ---- nibbles packed into bytes
 
@@ -103,15 +123,11 @@ packs_length k (h ∷ []) e = absurd (omega arith)
 packs_length zero (h ∷ l ∷ ns) e = absurd (omega arith)
 packs_length (suc k) (h ∷ l ∷ ns) e = ap suc (packs_length k ns (omega arith))
 
-pub packs_at : (i : ℕ) (ns : List ℕ) → i + i + 1 < length ns → get_or (packs ns) i 0 ≡ get_or ns (i + i) 0 * 16 + get_or ns (i + i + 1) 0
+pub packs_below : (ns : List ℕ) → Below 16 ns → Below 256 (packs ns)
 unfolding packs
-packs_at i [] h = absurd (not-suc-le-zero h)
-packs_at i (a ∷ []) h = absurd (omega arith)
-packs_at zero (a ∷ b ∷ ns) h = refl
-packs_at (suc i) (a ∷ b ∷ ns) h =
-    let e : suc i + suc i ≡ suc (suc (i + i)) = omega arith in
-    let e' : suc i + suc i + 1 ≡ suc (suc (i + i + 1)) = omega arith in
-    packs_at i ns (omega arith) ∙ sym (ap₂ (λ (x y : ℕ). get_or (a ∷ b ∷ ns) x 0 * 16 + get_or (a ∷ b ∷ ns) y 0) e e')
+packs_below [] b = tt
+packs_below (a ∷ []) b = tt
+packs_below (a ∷ l ∷ ns) b = (let first = b.0 in let second = b.1.0 in omega arith, packs_below ns b.1.1)
 
 pub packs_nibs : (bs : List ℕ) → packs (nibs bs) ≡ bs
 unfolding nibs packs
@@ -127,3 +143,27 @@ nibs_packs zero (h ∷ l ∷ ns) e b = absurd (omega arith)
 nibs_packs (suc k) (h ∷ l ∷ ns) e b =
     ap₂ (λ (x : ℕ) (xs : List ℕ). x ∷ xs) (digits_div h b.1.0)
     (ap₂ (λ (x : ℕ) (xs : List ℕ). x ∷ xs) (digits_mod h b.1.0) (nibs_packs k ns (omega arith) b.1.1))
+
+-- ---- the library's bytes of a number
+from_gathered : (bs : List ℕ) → length bs ≡ 8 → gathered bs ≡ from_le_bytes w64 bs
+unfolding gathered
+from_gathered bs h =
+    let all = ap gathered (take_all 8 bs (omega arith)) in
+    let first = gathered_suc bs 0 (omega arith) in
+    let second = gathered_suc bs 1 (omega arith) in
+    let third = gathered_suc bs 2 (omega arith) in
+    let fourth = gathered_suc bs 3 (omega arith) in
+    let fifth = gathered_suc bs 4 (omega arith) in
+    let sixth = gathered_suc bs 5 (omega arith) in
+    let seventh = gathered_suc bs 6 (omega arith) in
+    let eighth = gathered_suc bs 7 (omega arith) in
+    omega arith
+
+-- the library's bytes of the word of nibbles, exchanged, are those that pack them
+pub packed : (w : ℕ) → w < 2 ^ 64 → to_le_bytes w64 (bit_and w (lows 8) * 16 + bit_and (w / 16) (lows 8)) ≡ packs (row 16 w)
+packed w fits =
+    let bs = packs (row 16 w) in
+    let long = packs_length 8 (row 16 w) (row_length 16 w) in
+    let back = exchanged_back 8 (row 16 w) (row_below 16 w) (row_length 16 w) in
+    let same : bit_and (word (row 16 w)) (lows 8) * 16 + bit_and (word (row 16 w) / 16) (lows 8) ≡ bit_and w (lows 8) * 16 + bit_and (w / 16) (lows 8) = ap (λ (x : ℕ). bit_and x (lows 8) * 16 + bit_and (x / 16) (lows 8)) (word_back w fits) in
+    le_bytes_8 bs _ long (λ i. below_at 256 bs i (lit< tt) (packs_below (row 16 w) (row_below 16 w))) (sym same ∙ back ∙ from_gathered bs long)

@@ -58,19 +58,6 @@ leading_take p (x ∷ xs) = go (leading_take p xs) (p x)
     go h true = ap (λ (l : List ℕ). x ∷ l) h
     go h false = refl
 
-module _ (p : ℕ → Bool) (ns : List ℕ) (i : ℕ) (h : i < length ns) where
-  pub lead_stop : p (get_or ns i 0) ≡ false → length (leading p (drop i ns)) ≡ 0
-  unfolding leading
-  lead_stop e = rw (drop-cons ns i 0 h, e)
-
-  pub lead_on : p (get_or ns i 0) ≡ true → length (leading p (drop i ns)) ≡ suc (length (leading p (drop (i + 1) ns)))
-  unfolding leading
-  lead_on e = rw (drop-cons ns i 0 h, e, add-one i)
-
-pub lead_over : (p : ℕ → Bool) (ns : List ℕ) → length (leading p (drop (length ns) ns)) ≡ 0
-unfolding leading
-lead_over p ns = rw (drop-length ns)
-
 -- ---- every one
 
 pub every_leading : (p : ℕ → Bool) (xs : List ℕ) → every p xs ≡ eqb (length (leading p xs)) (length xs)

@@ -1,7 +1,7 @@
 // Nibbles by shift and mask, and rows of nibbles held in words: the first nibble is the lowest.
 #![tactic(auto)]
 
-ghost use Rattle.std.specs.Prelude.{◌≡◌, ◌++◌, ◌+◌, ◌-◌, ◌*◌, ◌^◌, ◌<◌, ◌≤◌, length, get_or, drop};
+ghost use Rattle.std.specs.Prelude.{◌≡◌, ◌++◌, ◌+◌, ◌-◌, ◌*◌, ◌/◌, ◌^◌, ◌<◌, ◌≤◌, length, get_or, drop, bit_and};
 ghost use Rattle.std.proofs.Math.Seq.{slice};
 ghost use Rattle.nibbles.specs.Nibbles.{nibs, packs, word, row, within, leading};
 
@@ -32,17 +32,14 @@ pub fn join(head: u64, n: usize, tail: u64) -> u64
     (tail << (4 * n)) + head
 }
 
-// The byte that two neighbouring nibbles make.
-#[tactic(auto, using(crate::proofs::Rows::row_at_lt))]
-fn byte(w: u64, i: usize) -> u8
-    requires { i < 8 }
-    ensures { result ≡ get_or (packs (row 16 w)) i 0 }
+// The two nibbles of each byte of a word change places: the high one is written first, and a row's first is the lowest.
+fn exchanged(w: u64) -> u64
+    ensures { result ≡ bit_and w LOW * 16 + bit_and (w / 16) LOW }
 {
-    (nibble(w, 2 * i) * 16 + nibble(w, 2 * i + 1)) as u8
+    (w & LOW) * 16 + ((w >> 4) & LOW)
 }
 
-// The row of at most eight bytes. They are gathered as they stand, which the compiler does at one stroke; then the two nibbles of each
-// change places, since the high one is written first.
+// The row of at most eight bytes. They are gathered as they stand, which the compiler does at one stroke.
 pub fn row_of(bytes: &[u8]) -> u64
     requires { length bytes.now ≤ 8 }
     ensures { result ≡ word (nibs bytes.now) }
@@ -51,7 +48,7 @@ pub fn row_of(bytes: &[u8]) -> u64
     for (i, b) in bytes.iter().enumerate() {
         w += (*b as u64) << (8 * i);
     }
-    (w & LOW) * 16 + ((w >> 4) & LOW)
+    exchanged(w)
 }
 
 // Packs a row of sixteen nibbles into the first eight bytes of `out`.
@@ -59,9 +56,7 @@ pub fn put_bytes(w: u64, out: &mut [u8])
     requires { 8 ≤ length out.old }
     ensures { out.new ≡ packs (row 16 w) ++ drop 8 out.old }
 {
-    for i in 0..8 {
-        out[i] = byte(w, i);
-    }
+    out[..8].copy_from_slice(&exchanged(w).to_le_bytes());
 }
 
 // Writes the first n nibbles of a row to `out`, one to a byte.

@@ -28,5 +28,5 @@ unfolding lows
 returns c =
     let l = c.loop-i in
     let bs = c.args.bytes.now in
-    ap (λ (w : ℕ). bit_and w 0x0F0F0F0F0F0F0F0F * 16 + bit_and (w / 16) 0x0F0F0F0F0F0F0F0F) (l.invariant ∙ ap gathered (take_all l.i bs (omega arith)))
+    c.exchanged.ensures ∙ ap (λ (w : ℕ). bit_and w 0x0F0F0F0F0F0F0F0F * 16 + bit_and (w / 16) 0x0F0F0F0F0F0F0F0F) (l.invariant ∙ ap gathered (take_all l.i bs (omega arith)))
     ∙ exchanged 8 bs (bytes_below bs c.type_inv.bytes) c.requires
