@@ -28,10 +28,8 @@ pub fn look_up(table: &[u64], n: usize, w: u64) -> u64
     ensures { result ≡ looked table.now n w }
 {
     let mut sum: u64 = 0;
-    let mut i: usize = 0;
-    while i < n {
-        sum = sum ^ table[i * 16 + nibble_at(w, i)];
-        i += 1;
+    for i in 0..n {
+        sum ^= table[i * 16 + nibble_at(w, i)];
     }
     sum
 }

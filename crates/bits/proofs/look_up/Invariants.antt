@@ -1,11 +1,7 @@
 -- What `bits::look_up` keeps from turn to turn.
-use Prim.Native.Nat.{◌-◌, ◌≤◌}
 use mathlib.Core.Path.{◌≡◌}
 use Rattle.bits.specs.Nibbled.{looked}
 use Rattle.bits.proofs.look_up.Given as goal
 
 abbrev pub invariant-loop-i : goal.invariant-loop-i
-invariant-loop-i l = (l.i ≤ l.n) × (l.sum ≡ looked l.table l.i l.w)
-
-abbrev pub decreases-loop-i : goal.decreases-loop-i
-decreases-loop-i l = l.n - l.i
+invariant-loop-i l = l.sum ≡ looked l.table l.i l.w

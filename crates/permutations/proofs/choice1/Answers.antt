@@ -1,5 +1,4 @@
 -- `permutations::choice1` meets its contract.
-use Prim.Native.Nat.{◌^◌, ◌<◌}
 use native.Mathlib.Omega.{arith}
 use mathlib.Core.Path.{ap, ◌∙◌}
 use Rattle.permutations.specs.Exchanges.{arranged}
@@ -8,7 +7,4 @@ use Rattle.permutations.proofs.choice1.Goals as goal
 
 pub returns : goal.returns
 unfolding arranged
-returns c =
-    let key = c.args.key in
-    let h : key < 2 ^ 64 = omega (arith, c.ranges) in
-    ap arranged c.flipped-x.ensures ∙ choice_is_PC1 key h
+returns c = ap arranged c.flipped-x.ensures ∙ choice_is_PC1 c.args.key (omega (arith, c.ranges))

@@ -1,9 +1,0 @@
--- `tripledes::encipher_by` meets its contract.
-use mathlib.Core.List.{reverse}
-use Rattle.fips46.proofs.Undo.{three_on_end}
-use Rattle.tripledes.proofs.encipher_by.Goals as goal
-
-pub returns : goal.returns
-returns c =
-    let a = c.args in
-    cc (three_on_end a.k1.now (reverse a.k2.now) a.k3.now a.w)
