@@ -38,9 +38,7 @@ pub fn triple(way: Way, key: &[u8], block: &[u8], out: &mut [u8]) -> Reply
     if block.len() != 8 {
         return Reply::refused(Refusal::Field15);
     }
-    let table = sboxes::table();
-    let pc2 = keyschedule::table();
-    words::put_bytes(ciphers::triple_word(&table, &pc2, way, key, block), 8, out);
+    words::put_bytes(ciphers::triple_word(way, key, block), 8, out);
     Reply::done(8)
 }
 
@@ -54,13 +52,6 @@ pub fn key_check(key: &[u8], out: &mut [u8]) -> Reply
     if !ciphers::is_lab_key(key) {
         return Reply::refused(Refusal::Field15);
     }
-    let table = sboxes::table();
-    let pc2 = keyschedule::table();
-    let zeros = [0u8; 8];
-    words::put_bytes(
-        ciphers::triple_word(&table, &pc2, Way::Encipher, key, &zeros),
-        3,
-        out,
-    );
+    words::put_bytes(ciphers::triple_word(Way::Encipher, key, &[0; 8]), 3, out);
     Reply::done(3)
 }

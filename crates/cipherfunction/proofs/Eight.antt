@@ -1,6 +1,6 @@
 -- The boxes joined with P, box by box, are the cipher function: P goes with the exclusive or, and the boxes' four bits do not meet.
 -- Assumes nothing.
-use Prim.Native.Nat.{ℕ, ◌+◌, ◌-◌, ◌*◌, ◌^◌, ◌<◌, ◌≤◌}
+use Prim.Native.Nat.{ℕ, ◌+◌, ◌*◌, ◌^◌, ◌<◌, ◌≤◌}
 use native.Mathlib.Omega.{arith}
 use native.Mathlib.Nat.{mul-one}
 use mathlib.Core.Path.{◌≡◌, ◌∙◌, ap, ap₂, sym, subst}

@@ -4,7 +4,7 @@
 ghost use Rattle.std.specs.Prelude.{◌≡◌, ◌<◌, ◌≤◌};
 ghost use Rattle.fips46.specs.Rows.{InRow};
 ghost use Rattle.fips46.specs.Fips46.{f as f_of};
-ghost use Rattle.sboxes.specs.Permuted.{permuted, permuted_all};
+ghost use Rattle.sboxes.specs.Permuted.{permuted};
 ghost use Rattle.cipherfunction.specs.Windows.{edged, window};
 
 // R with its last bit before it and its first behind it.
@@ -24,25 +24,24 @@ fn six(n: usize, y: u64, k: u64) -> usize
 }
 
 // What box n makes of them, permuted by P.
-fn boxed(table: &[u32; 512], n: usize, y: u64, k: u64) -> u32
-    requires { (table.now ≡ permuted_all) × (1 ≤ n) × (n ≤ 8) }
+fn boxed(n: usize, y: u64, k: u64) -> u32
+    requires { (1 ≤ n) × (n ≤ 8) }
     ensures { (result ≡ permuted n (window n y k)) × InRow n (window n y k) }
 {
-    let b = six(n, y, k);
-    sboxes::through(table, n, b)
+    sboxes::through(n, six(n, y, k))
 }
 
 // The cipher function, of R and a block of key bits.
-pub fn f(table: &[u32; 512], r: u32, k: u64) -> u32
-    requires { table.now ≡ permuted_all }
+pub fn f(r: u32, k: u64) -> u32
     ensures { result ≡ f_of r k }
 {
     let y = edges(r);
-    boxed(table, 1, y, k)
-        ^ (boxed(table, 2, y, k)
-            ^ (boxed(table, 3, y, k)
-                ^ (boxed(table, 4, y, k)
-                    ^ (boxed(table, 5, y, k)
-                        ^ (boxed(table, 6, y, k)
-                            ^ (boxed(table, 7, y, k) ^ boxed(table, 8, y, k)))))))
+    boxed(1, y, k)
+        ^ boxed(2, y, k)
+        ^ boxed(3, y, k)
+        ^ boxed(4, y, k)
+        ^ boxed(5, y, k)
+        ^ boxed(6, y, k)
+        ^ boxed(7, y, k)
+        ^ boxed(8, y, k)
 }

@@ -1,26 +1,13 @@
 -- What the code's subkeys come to.
 -- Assumes nothing.
-use Prim.Native.Nat.{ℕ, ◌≤◌}
-use native.Mathlib.Omega.{arith}
+use Prim.Native.Nat.{ℕ}
 use mathlib.Core.Path.{◌≡◌, refl, ◌∙◌, ap, sym}
-use mathlib.Core.Bool.{Bool, true, false, ◌||◌}
 use mathlib.Core.List.{List}
-use lib.Dec.{eqb}
-use lib.ListN.{length}
-use borrow.Author.Tests.{eqb-true}
 use Rattle.words.specs.Words.{spelled}
 use Rattle.fips46.specs.Fips46.{KS}
 use Rattle.ciphers.specs.declared.Way.{Way}
 use Rattle.ciphers.specs.declared.Way.TheVariants.{Encipher, Decipher}
-use Rattle.ciphers.specs.Ciphers.{is_lab_key, key_at, third_at, des_word, triple_word, computed_once, computed_thrice}
-
--- a lab key has two keys at least
-pub lab_key_long : (key : List ℕ) → is_lab_key key ≡ true → 16 ≤ length key
-lab_key_long key h = go (eqb (length key) 16) refl h
-  where
-    go : (b : Bool) → eqb (length key) 16 ≡ b → (b || eqb (length key) 24) ≡ true → 16 ≤ length key
-    go true e t = omega (arith, eqb-true (length key) 16 e)
-    go false e t = omega (arith, eqb-true (length key) 24 t)
+use Rattle.ciphers.specs.Ciphers.{key_at, third_at, des_word, triple_word, computed_once, computed_thrice}
 
 -- one computation by the subkeys of a key
 pub once_is_des : (way : Way) (key block ks : List ℕ) (w : ℕ) → ks ≡ KS (spelled key) → w ≡ spelled block → computed_once way ks w ≡ des_word way key block

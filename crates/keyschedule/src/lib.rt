@@ -4,10 +4,9 @@
 ghost use Rattle.std.specs.Prelude.{◌≡◌, ◌^◌, ◌<◌, ◌≤◌, get_or};
 ghost use Rattle.bits.specs.Select.{select};
 ghost use Rattle.fips46.specs.Fips46.{PC2, shifts, rotated, KS};
-ghost use Rattle.keyschedule.specs.Choices.{choices};
 
-// Permuted choice 2, by nibbles.
-const CHOICES: [u64; 224] = [
+// Permuted choice 2, by nibbles. A static and no constant, which would be copied where it is lent.
+static CHOICES: [u64; 224] = [
     0x000000000000,
     0x000000000100,
     0x000000040000,
@@ -234,21 +233,14 @@ const CHOICES: [u64; 224] = [
     0x0a0101000000,
 ];
 
-const SHIFTS: [u8; 16] = [1, 1, 2, 2, 2, 2, 2, 2, 1, 2, 2, 2, 2, 2, 2, 1];
-
-// The table, to be lent: where a constant is indexed it is copied each time.
-pub fn table() -> [u64; 224]
-    ensures { result ≡ choices }
-{
-    CHOICES
-}
+static SHIFTS: [u8; 16] = [1, 1, 2, 2, 2, 2, 2, 2, 1, 2, 2, 2, 2, 2, 2, 1];
 
 // Permuted choice 2.
-fn choice2(table: &[u64; 224], w: u64) -> u64
-    requires { (table.now ≡ choices) × (w < 2 ^ 56) }
+fn choice2(w: u64) -> u64
+    requires { w < 2 ^ 56 }
     ensures { result ≡ select 56 PC2 w }
 {
-    bits::look_up(table, 14, w)
+    bits::look_up(&CHOICES, 14, w)
 }
 
 // How many places iteration i, counted from 0, rotates.
@@ -268,21 +260,18 @@ fn rotate(c: u64, n: u64) -> u64
 }
 
 // K1 to K16.
-pub fn subkeys(table: &[u64; 224], key: u64) -> [u64; 16]
-    requires { table.now ≡ choices }
+pub fn subkeys(key: u64) -> [u64; 16]
     ensures { result ≡ KS key }
 {
     let chosen = permutations::choice1(key);
     let mut c = chosen >> 28;
     let mut d = chosen % 0x1000_0000;
     let mut ks = [0u64; 16];
-    let mut i: usize = 0;
-    while i < 16 {
+    for (i, k) in ks.iter_mut().enumerate() {
         let n = shift(i);
         c = rotate(c, n);
         d = rotate(d, n);
-        ks[i] = choice2(table, c * 0x1000_0000 + d);
-        i += 1;
+        *k = choice2(c * 0x1000_0000 + d);
     }
     ks
 }

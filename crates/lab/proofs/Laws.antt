@@ -1,12 +1,12 @@
 -- What a call of the core left in its buffer, and what a key makes of it.
 -- Assumes nothing.
-use Prim.Native.Nat.{ℕ, ◌-◌, ◌≤◌}
+use Prim.Native.Nat.{ℕ, ◌≤◌}
 use native.Mathlib.Omega.{arith}
 use mathlib.Core.Path.{◌≡◌, refl, ◌∙◌, ap, ap₂, sym, subst}
-use mathlib.Core.List.{List, [], ◌++◌}
-use mathlib.Core.Bool.{Bool, true, false, cond}
+use mathlib.Core.List.{List, [], ◌++◌, append-nil}
+use mathlib.Core.Bool.{Bool, true, cond}
 use lib.ListN.{length, take, drop}
-use lib.Seq.{take_at, take_all, length_front, length-take-le}
+use lib.Seq.{take_at, take_all}
 use Rattle.numbers.specs.Numbers.{Outcome, done, refused}
 use Rattle.numbers.specs.Promise.{Said, Does, quietly}
 use Rattle.numbers.specs.declared.Reply.{Reply}
@@ -42,20 +42,6 @@ asked_eight settings s room = eight (asking settings s room) room (asked_block s
 
 -- ---- its buffer afterwards
 
--- it is as long as it was
-pub kept_length : (o : Outcome (List ℕ)) → Eight o → (before after : List ℕ) (r : Reply) → Does (quietly o) before r after → 8 ≤ length before → length after ≡ length before
-kept_length (done ws) e before after r d h =
-    let l : length ws ≡ 8 = e ws refl in
-    let k : length ws ≤ length before = omega arith in
-    ap length d.buffer ∙ length_front before ws (length ws) (sym (length-take-le (length ws) before k))
-kept_length (refused q) e before after r d h = ap length d.buffer
-
--- and has a block at its beginning
-pub first_eight : (o : Outcome (List ℕ)) → Eight o → (before after : List ℕ) (r : Reply) → Does (quietly o) before r after → 8 ≤ length before → length (take 8 after) ≡ 8
-first_eight o e before after r d h =
-    let k : length after ≡ length before = kept_length o e before after r d h in
-    length-take-le 8 after (omega arith)
-
 -- where nothing was written a key makes nothing of it
 pub none_made : (o : Outcome (List ℕ)) → Eight o → (before after : List ℕ) (r : Reply) → Does (quietly o) before r after → r.written ≡ 0
     → (way : Way) (key : List ℕ) → [] ≡ made_of_written way key o
@@ -71,15 +57,11 @@ some_made (refused q) e before after r d z way key = absurd (z d.count)
 
 -- ---- what a key makes
 
-pub no_lab_key : (way : Way) (key block : List ℕ) → is_lab_key key ≡ false → [] ≡ made_of way key block
-no_lab_key way key block e = sym (ap (λ (b : Bool). cond b (triple_block way key block) []) e)
-
-pub lab_key : (way : Way) (key block out : List ℕ) (w : ℕ) → is_lab_key key ≡ true → w ≡ triple_word way key block
-    → take 8 (take 8 (in_bytes 8 w) ++ out) ≡ made_of way key block
-lab_key way key block out w e ew =
+-- eight bytes, with nothing behind them
+pub lab_key : (way : Way) (key block : List ℕ) (w : ℕ) → is_lab_key key ≡ true → w ≡ triple_word way key block → take 8 (in_bytes 8 w) ++ [] ≡ made_of way key block
+lab_key way key block w e ew =
     let l : length (in_bytes 8 w) ≤ 8 = rw (length_bytes 8 w) (omega arith) in
-    ap (λ (bytes : List ℕ). take 8 (bytes ++ out)) (take_all 8 (in_bytes 8 w) l)
-    ∙ take_at (in_bytes 8 w) out 8 (length_bytes 8 w)
+    append-nil (take 8 (in_bytes 8 w)) ∙ take_all 8 (in_bytes 8 w) l
     ∙ ap (in_bytes 8) ew ∙ sym (ap (λ (b : Bool). cond b (triple_block way key block) []) e)
 
 -- ---- the core's answering call at what the keys made

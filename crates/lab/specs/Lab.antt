@@ -1,6 +1,6 @@
 -- The lab's answering call: "a product above the core" that "takes clear lab keys, so parity answers 10 and 11 become its own". It has
 -- the core's definitions of its three calls and no other.
-use Rattle.std.specs.Prelude.{ℕ, List, [], cond}
+use Rattle.std.specs.Prelude.{ℕ, List, [], cond, Option, Some, None}
 use Rattle.numbers.specs.Numbers.{Outcome, done, refused}
 use Rattle.numbers.specs.Promise.{Said}
 use Rattle.settings.specs.declared.Settings.{Settings}
@@ -15,6 +15,11 @@ use Rattle.ciphers.specs.declared.Way.TheVariants.{Encipher, Decipher}
 -- that is not 8 bytes, and that is what the core answers to one
 abbrev pub made_of : Way → List ℕ → List ℕ → List ℕ
 made_of way key block = cond (is_lab_key key) (triple_block way key block) []
+
+-- the bytes of what was made, of which nothing has none
+abbrev pub bytes_of : Option (List ℕ) → List ℕ
+bytes_of (Some bytes) = bytes
+bytes_of None = []
 
 -- of what a call of the core hands out; a command that it refuses is refused by the answering call before any slice is looked at
 abbrev pub made_of_written : Way → List ℕ → Outcome (List ℕ) → List ℕ

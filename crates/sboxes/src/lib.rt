@@ -3,9 +3,10 @@
 
 ghost use Rattle.std.specs.Prelude.{◌≡◌, ◌<◌, ◌≤◌};
 ghost use Rattle.fips46.specs.Rows.{InRow};
-ghost use Rattle.sboxes.specs.Permuted.{permuted, permuted_all};
+ghost use Rattle.sboxes.specs.Permuted.{permuted};
 
-const PERMUTED: [u32; 512] = [
+// A static and no constant, which would be copied where it is indexed.
+static PERMUTED: [u32; 512] = [
     0x00808200, 0x00000000, 0x00008000, 0x00808202, 0x00808002, 0x00008202, 0x00000002, 0x00008000,
     0x00000200, 0x00808200, 0x00808202, 0x00000200, 0x00800202, 0x00808002, 0x00800000, 0x00000002,
     0x00000202, 0x00800200, 0x00800200, 0x00008200, 0x00008200, 0x00808000, 0x00808000, 0x00800202,
@@ -72,17 +73,10 @@ const PERMUTED: [u32; 512] = [
     0x08020820, 0x00020800, 0x00020800, 0x00000820, 0x00000820, 0x00020020, 0x08000000, 0x08020800,
 ];
 
-// The table, to be lent: where a constant is indexed it is copied each time.
-pub fn table() -> [u32; 512]
-    ensures { result ≡ permuted_all }
-{
-    PERMUTED
-}
-
 // What box n makes of six bits, permuted by P.
-pub fn through(table: &[u32; 512], n: usize, bits: usize) -> u32
-    requires { (table.now ≡ permuted_all) × (1 ≤ n) × (n ≤ 8) × (bits < 64) }
+pub fn through(n: usize, bits: usize) -> u32
+    requires { (1 ≤ n) × (n ≤ 8) × (bits < 64) }
     ensures { (result ≡ permuted n bits) × InRow n bits }
 {
-    table[(n - 1) * 64 + bits]
+    PERMUTED[(n - 1) * 64 + bits]
 }

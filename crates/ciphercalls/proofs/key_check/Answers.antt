@@ -2,7 +2,6 @@
 use native.Mathlib.Omega.{arith}
 use mathlib.Core.Path.{◌∙◌, sym}
 use lib.ListN.{length}
-use borrow.Author.Rules.{rules}
 use Rattle.numbers.proofs.Laws.{does_refuse}
 use Rattle.ciphers.specs.Ciphers.{triple_word}
 use Rattle.ciphers.specs.declared.Way.TheVariants.{Encipher}
@@ -23,9 +22,6 @@ returns-then-not-is_lab_key c =
     does_refuse (key_check a.key.now (length out)) _ out c.refused-then-not-is_lab_key.result
     (check_no_key a.key.now (length out) c.if-out-lt3.false (sym c.is_lab_key.ensures ∙ c.if-not-is_lab_key.true))
     c.refused-then-not-is_lab_key.ensures.0 c.refused-then-not-is_lab_key.ensures.1
-
-pub triple_word-requires : goal.triple_word-requires
-triple_word-requires c = (c.table-table.ensures, c.table-pc2.ensures, sym c.is_lab_key.ensures ∙ c.if-not-is_lab_key.false, search rules)
 
 pub returns : goal.returns
 returns c =

@@ -34,9 +34,6 @@ returns-then-block-ne8 c =
     does_refuse (triple_call a.way a.key.now a.block.now (length out)) _ out c.refused-then-block-ne8.result (no_block is_lab_key (triple_block a.way) a.key.now a.block.now (length out) c.if-out-lt8.false (sym c.is_lab_key.ensures ∙ c.if-not-is_lab_key.false) (ne_eqb _ _ c.if-block-ne8.true))
     c.refused-then-block-ne8.ensures.0 c.refused-then-block-ne8.ensures.1
 
-pub triple_word-requires : goal.triple_word-requires
-triple_word-requires c = (c.table-table.ensures, c.table-pc2.ensures, sym c.is_lab_key.ensures ∙ c.if-not-is_lab_key.false, c.if-block-ne8.false)
-
 pub returns : goal.returns
 unfolding triple_call
 returns c =

@@ -1,12 +1,8 @@
 -- What `des::onward` keeps from turn to turn.
-use Prim.Native.Nat.{◌-◌, ◌≤◌}
 use mathlib.Core.Path.{◌≡◌}
-use lib.ListN.{length, drop}
+use lib.ListN.{drop}
 use Rattle.fips46.specs.Fips46.{f, iterations}
 use Rattle.des.proofs.onward.Given as goal
 
-abbrev pub invariant-loop-i : goal.invariant-loop-i
-invariant-loop-i l = (l.i ≤ length l.ks) × (iterations f l.ks l.initial.x ≡ iterations f (drop l.i l.ks) l.x)
-
-abbrev pub decreases-loop-i : goal.decreases-loop-i
-decreases-loop-i l = length l.ks - l.i
+abbrev pub invariant-loop-k : goal.invariant-loop-k
+invariant-loop-k l = iterations f l.ks l.initial.x ≡ iterations f (drop l.k-index l.ks) l.x

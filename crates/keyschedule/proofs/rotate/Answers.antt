@@ -7,13 +7,6 @@ use Rattle.fips46.specs.Fips46.{rotated}
 use Rattle.keyschedule.proofs.Schedule.{rotated_lt}
 use Rattle.keyschedule.proofs.rotate.Goals as goal
 
-pub overflow_add-result : goal.overflow_add-result
-overflow_add-result c =
-    let a = c.args in
-    let s : a.c * 2 ^ a.n % 2 ^ 64 ≡ a.c * 2 ^ a.n = shl_exact 28 a.n 64 c.requires.0 (omega arith) in
-    let h : rotated a.n a.c < 2 ^ 28 = rotated_lt a.n a.c c.requires.0 c.requires.1 c.requires.2 in
-    record { fits = rw s (omega arith) }
-
 pub returns : goal.returns
 returns c =
     let a = c.args in

@@ -1,6 +1,6 @@
--- `des::decipher_by` meets its contract.
+-- `des::computed_by` meets its contract.
 use Rattle.fips46.specs.Fips46.{computed}
-use Rattle.des.proofs.decipher_by.Goals as goal
+use Rattle.des.proofs.computed_by.Goals as goal
 
 pub returns : goal.returns
 unfolding computed

@@ -1,7 +1,0 @@
--- `des::encipher_by` meets its contract.
-use Rattle.fips46.specs.Fips46.{computed}
-use Rattle.des.proofs.encipher_by.Goals as goal
-
-pub returns : goal.returns
-unfolding computed
-returns c = cc
