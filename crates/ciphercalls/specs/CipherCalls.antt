@@ -2,6 +2,7 @@
 use Rattle.std.specs.Prelude.{ℕ, List, [], ◌∷◌, Bool, leb, eqb, length, take}
 use Rattle.numbers.specs.Numbers.{Outcome, done, and_then, unless}
 use Rattle.numbers.specs.declared.Refusal.TheVariants.{Field15, Room901}
+use Rattle.words.specs.Words.{in_bytes}
 use Rattle.ciphers.specs.Ciphers.{des_block, triple_block, is_lab_key}
 use Rattle.ciphers.specs.declared.Way.{Way}
 use Rattle.ciphers.specs.declared.Way.TheVariants.{Encipher}
@@ -35,3 +36,8 @@ check_value key = take 3 (triple_block Encipher key zeros)
 -- of a lab key, with room for it
 unfoldable pub key_check : List ℕ → ℕ → Outcome (List ℕ)
 key_check key room = and_then (keyed 3 is_lab_key key room) (λ k. done (check_value k))
+
+-- ---- as the code makes them: the first n bytes of a word, where the key and the block are fit for it
+
+abbrev pub first_bytes : ℕ → Bool → ℕ → ℕ → Outcome (List ℕ)
+first_bytes n fit w room = and_then (unless Room901 (leb n room) room) (λ _. unless Field15 fit (take n (in_bytes 8 w)))

@@ -59,7 +59,8 @@ fn run(made: &Option<[u8; 8]>) -> &[u8]
 
 // Answers a command with two lab keys: what the key box would have made of it is made here.
 pub fn answer(settings: Settings, command: &[u8], pinkey: &[u8], pvk: &[u8], out: &mut [u8]) -> Told
-    ensures { Does (lab_answered settings command.now pinkey.now pvk.now (length out.old)) out.old result.reply out.new × (result.pointer ≡ shown (lab_replying settings command.now pinkey.now pvk.now (length out.old))) }
+    ensures { Does (lab_answered settings command.now pinkey.now pvk.now (length out.old)) out.old result.reply out.new
+        × (result.pointer ≡ shown (lab_replying settings command.now pinkey.now pvk.now (length out.old))) }
 {
     let clear = clear_block(settings, command, pinkey);
     let cipher = validation_cipher(settings, command, pvk);
