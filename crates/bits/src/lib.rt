@@ -22,13 +22,13 @@ fn nibble_at(w: u64, n: usize) -> usize
     ((w >> (4 * n)) % 16) as usize
 }
 
-// What a table over n nibbles has for a word.
-pub fn look_up(table: &[u64], n: usize, w: u64) -> u64
-    requires { (n ≤ 16) × (length table.now ≡ n * 16) }
-    ensures { result ≡ looked table.now n w }
+// What a table has for a word: sixteen numbers for each of its nibbles, from the lowest.
+pub fn look_up(table: &[u64], w: u64) -> u64
+    requires { length table.now ≤ 256 }
+    ensures { result ≡ looked table.now (length table.now / 16) w }
 {
     let mut sum: u64 = 0;
-    for i in 0..n {
+    for i in 0..table.len() / 16 {
         sum ^= table[i * 16 + nibble_at(w, i)];
     }
     sum

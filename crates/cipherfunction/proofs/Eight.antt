@@ -8,6 +8,7 @@ use lib.Bits.{bit_xor, xor_shifted}
 use Rattle.bits.specs.Select.{select}
 use Rattle.bits.proofs.Linear.{itself, selects}
 use Rattle.fips46.specs.Fips46.{E, P, S, B, f}
+use Rattle.fips46.specs.Rows.{InRow}
 use Rattle.sboxes.specs.Permuted.{permuted}
 use Rattle.cipherfunction.specs.Windows.{edged, window}
 use Rattle.cipherfunction.proofs.Windows.{window_is_B}
@@ -32,10 +33,9 @@ spread a1 a2 a3 a4 a5 a6 a7 a8 h2 h3 h4 h5 h6 h7 h8 =
     behind : (a : ℕ) {x y : ℕ} → x ≡ y → bit_xor (select 32 P a) x ≡ bit_xor (select 32 P a) y
     behind a e = ap (λ (z : ℕ). bit_xor (select 32 P a) z) e
 
--- what the code has of box n: the word, and that the box's number has four bits
-pub record Boxed (n y k x : ℕ) : Type 0 where
-  pub word : x ≡ permuted n (window n y k)
-  pub four : S n (window n y k) < 16
+-- what the code has of box n: the word, and what its row promises of the box's number
+abbrev pub Boxed : ℕ → ℕ → ℕ → ℕ → Type 0
+Boxed n y k x = (x ≡ permuted n (window n y k)) × InRow n (window n y k)
 
 -- both at the block of "K ⊕ E(R)"
 module _ (r k y : ℕ) (b : r < 2 ^ 32) (e : y ≡ edged r) where
@@ -43,10 +43,10 @@ module _ (r k y : ℕ) (b : r < 2 ^ 32) (e : y ≡ edged r) where
   given n h l = ap (λ (z : ℕ). window n z k) e ∙ window_is_B n r k h l b
 
   word_at : (n x : ℕ) → 1 ≤ n → n ≤ 8 → Boxed n y k x → x ≡ permuted n (B n (bit_xor (select 32 E r) k))
-  word_at n x h l p = p.word ∙ ap (permuted n) (given n h l)
+  word_at n x h l p = p.0 ∙ ap (permuted n) (given n h l)
 
   four_at : (n x : ℕ) → 1 ≤ n → n ≤ 8 → Boxed n y k x → S n (B n (bit_xor (select 32 E r) k)) < 16
-  four_at n x h l p = subst (λ (z : ℕ). S n z < 16) (given n h l) p.four
+  four_at n x h l p = subst (λ (z : ℕ). S n z < 16) (given n h l) p.1.four
 
   -- the eight words make the cipher function
   pub f_is : (x1 x2 x3 x4 x5 x6 x7 x8 : ℕ) → Boxed 1 y k x1 → Boxed 2 y k x2 → Boxed 3 y k x3 → Boxed 4 y k x4 → Boxed 5 y k x5

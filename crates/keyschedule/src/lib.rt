@@ -240,7 +240,7 @@ fn choice2(w: u64) -> u64
     requires { w < 2 ^ 56 }
     ensures { result ≡ select 56 PC2 w }
 {
-    bits::look_up(&CHOICES, 14, w)
+    bits::look_up(&CHOICES, w)
 }
 
 // How many places iteration i, counted from 0, rotates.
