@@ -17,8 +17,9 @@ use Rattle.pins.proofs.Laws.{account_done, sized_done}
 use Rattle.numbers.specs.Promise.{Does, quietly}
 use Rattle.numbers.specs.declared.Reply.{Reply}
 use Rattle.numbers.proofs.Laws.{does_as}
-use Rattle.pins.specs.declared.Row.{Row}
-use Rattle.pins.specs.declared.Reading.{Reading}
+use Rattle.pins.specs.declared.Pin.{Pin}
+use Rattle.numbers.specs.declared.Refusal.{Refusal}
+use Rattle.std.specs.Prelude.{Result}
 use Rattle.answers.specs.Answers.{block_of, bytes_of, Roomy, digits_in, RoomyDigits}
 
 -- ---- rows of sixteen nibbles
@@ -76,7 +77,7 @@ roomy (done bs) room b = (b bs refl).0
 roomy (refused q) room b = tt
 
 -- an answer of that outcome has room, and is what the call says
-module _ (o : Outcome (List ℕ)) (room : ℕ) (blocky : Blocky o room) (j : Row) (e : j ≡ block_of o) where
+module _ (o : Outcome (List ℕ)) (room : ℕ) (blocky : Blocky o room) (j : Result ℕ Refusal) (e : j ≡ block_of o) where
   pub answer_room : Roomy j room
   answer_room = rw e (roomy o room blocky)
 
@@ -98,7 +99,7 @@ roomy_digits (done ds) room d = ((d ds refl).0, (d ds refl).1)
 roomy_digits (refused q) room d = tt
 
 -- an answer of that outcome has room, and is what the call says
-module _ (o : Outcome (List ℕ)) (room : ℕ) (digital : Digital o room) (j : Reading) (e : j ≡ reading_of o) where
+module _ (o : Outcome (List ℕ)) (room : ℕ) (digital : Digital o room) (j : Result Pin Refusal) (e : j ≡ reading_of o) where
   pub digits_room : RoomyDigits j room
   digits_room = rw e (roomy_digits o room digital)
 

@@ -2,6 +2,7 @@
 // block holds the same PIN, becomes the same block of format 01, and gives BK the same offset.
 #![tactic(auto)]
 
+use keybox::BoxAnswers;
 use settings::Settings;
 use std::io;
 
@@ -88,15 +89,13 @@ fn show_response(
     let command = command_in(format);
     let enciphered = classroom::ENCIPHERED;
     let mut response = [0u8; 65];
-    let told = commands::answer(
-        settings,
-        true,
-        true,
-        &command,
-        &block,
-        &enciphered,
-        &mut response,
-    );
+    let answers = BoxAnswers {
+        pinparity: true,
+        pvkparity: true,
+        block: &block,
+        enciphered: &enciphered,
+    };
+    let told = commands::answer(settings, answers, &command, &mut response);
     let n = response.len().min(told.reply.written as usize);
     show(rt, b"  BK's response ", &response[..n])
 }

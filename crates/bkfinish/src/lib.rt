@@ -10,26 +10,18 @@ ghost use Rattle.bkfields.specs.Answers.{Placed};
 use bkfields::Bk;
 use keybox::Boxed;
 use numbers::Refusal;
-use offsets::Comparison;
-use pins::Reading;
+use pins::Pin;
 
 // The block, 81, 86: the offset's digits.
-pub fn finish(variable: bool, command: &[u8], bk: Bk, boxed: Boxed) -> Reading
+pub fn finish(variable: bool, command: &[u8], bk: Bk, boxed: Boxed) -> Result<Pin, Refusal>
     requires { Placed command.now bk }
     ensures { result ≡ reading_of (bk_finish variable command.now bk (box_rows boxed)) }
 {
     let data = bk.offsetting;
-    let comparison = pairing::pair(command, bk.sealed, data, boxed);
-    let Comparison::Of(pair) = comparison else {
-        return Reading::Bad(comparison.refusal());
-    };
-    let made = offsets::offset_for(variable, data.check as u32, pair);
-    let Reading::Got(offset) = made else {
-        return Reading::Bad(Refusal::Check81);
-    };
-    let n = pair.length;
-    if weak::is_weak(bk.weak, command, n, pair.pin) {
-        return Reading::Bad(Refusal::Weak86);
+    let pair = pairing::pair(command, bk.sealed, data, boxed)?;
+    let offset = offsets::offset_for(variable, data.check as u32, pair)?;
+    if weak::is_weak(bk.weak, command, pair.length, pair.pin) {
+        return Err(Refusal::Weak86);
     }
-    Reading::Got(offset)
+    Ok(offset)
 }

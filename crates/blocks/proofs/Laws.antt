@@ -2,13 +2,13 @@
 -- Assumes nothing.
 use Prim.Native.Nat.{ℕ, zero, suc, ◌+◌, ◌-◌, ◌*◌, ◌/◌, ◌^◌, ◌≤◌, ◌<◌}
 use native.Mathlib.Omega.{arith}
-use native.Mathlib.Nat.{mod-eq_of_lt, mod-lt}
+use native.Mathlib.Nat.{mod-eq_of_lt, mod-lt, lt_of_lt_of_le, pow-le-pow_right}
 use mathlib.Core.Path.{◌≡◌, refl, sym, ap, ap₂, ◌∙◌, subst}
 use mathlib.Core.List.{List, [], ◌∷◌, ◌++◌, map}
 use mathlib.Core.Bool.{Bool, true, false, ◌&&◌}
 use lib.ListN.{length, get_or, drop, length-map, length-append, length-drop}
 use lib.Seq.{slice, take_all, length-slice}
-use lib.Dec.{eqb, lit<, lit≤}
+use lib.Dec.{lit<, lit≤}
 use lib.Bits.{xor_lt}
 use borrow.Author.Tests.{le-leb, eqb-true}
 use Rattle.nibbles.specs.Nibbles.{row, word, xors, within, every, leading}
@@ -16,7 +16,6 @@ use Rattle.nibbles.proofs.Lists.{Below, below_weaken, and_left, and_right, map_a
 use Rattle.nibbles.proofs.Rows.{row_length, row_below, row_part, row_word, word_row, word_none, word_lt, word_append}
 use Rattle.nibbles.proofs.Runs.{leading_take, inside_high, every_leading, run_whole, run_broken, below_every}
 use Rattle.numbers.specs.Numbers.{done, refused, and_then}
-use Rattle.numbers.specs.declared.Refusal.{Refusal}
 use Rattle.numbers.specs.declared.Refusal.TheVariants.{Block20, Length24}
 use Rattle.formats.specs.Formats.{lead_of, lead_width, leads, filled, fill_of, least_fill, fits, veiled}
 use Rattle.formats.specs.declared.Format.{Format}
@@ -28,7 +27,7 @@ use Rattle.formats.specs.declared.Fill.TheVariants.{F, AToF, Any}
 use Rattle.pins.specs.Pins.{digit, pin_length}
 use Rattle.pins.specs.Answers.{pin_of}
 use Rattle.pins.specs.declared.Pin.{Pin}
-use Rattle.numbers.proofs.Laws.{passed, failed, then_done}
+use Rattle.numbers.proofs.Laws.{passed, then_done}
 use Rattle.pins.proofs.Laws.{Pinned, pinned, pin_under, pin_row}
 use Rattle.answers.specs.Answers.{digits_of}
 use Rattle.answers.proofs.Laws.{Sixteen, sixteen_word}
@@ -55,10 +54,9 @@ filled_below Any n h = h
 pub digits_word : (p : Pin) → Proper p → word (digits_of p) ≡ p.digits
 digits_word p h = word_row p.length p.digits ∙ mod-eq_of_lt h.clean
 
--- a count is refused for its contents only
-pub counted_refused : (l : Lead) (ns : List ℕ) (q : Refusal) → counted l ns ≡ refused q → counted l ns ≡ refused Block20
-counted_refused Bare ns q e = (failed Block20 q (every digit (before_f ns)) (length (before_f ns)) e).1
-counted_refused (Control c) ns q e = (failed Block20 q (eqb (get_or ns 0 0) c) (get_or ns 1 0) e).1
+-- twelve digits leave room for a lead
+pub proper_small : (p : Pin) → Proper p → p.digits < 16 ^ 12
+proper_small p h = lt_of_lt_of_le h.clean (pow-le-pow_right (lit< tt) h.short)
 
 -- what stands before the first F is a part of the row
 pub before_part : (w : ℕ) → before_f (row 16 w) ≡ slice 0 (length (before_f (row 16 w))) (row 16 w)

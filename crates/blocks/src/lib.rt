@@ -12,7 +12,7 @@ ghost use Rattle.blocks.specs.Answers.{Proper};
 
 use formats::{Fill, Format, Lead};
 use numbers::Refusal;
-use pins::{Count, Pin, Reading};
+use pins::Pin;
 
 // A row of sixteen F.
 const ALL_F: u64 = 0xffff_ffff_ffff_ffff;
@@ -25,27 +25,27 @@ fn under_veil(f: Format, with: u64, block: u64) -> u64
 }
 
 // Where nothing leads the digits they end at the first F.
-fn counted_bare(clear: u64) -> Count
+fn counted_bare(clear: u64) -> Result<usize, Refusal>
     ensures { result ≡ count_of (counted Lead.Bare (row 16 clear)) }
 {
     let n = nibbles::run_end(clear, 0, 16, 0, 14);
     if nibbles::run_end(clear, 0, n, 0, 9) < n {
-        return Count::Bad(Refusal::Block20);
+        return Err(Refusal::Block20);
     }
-    Count::Of(n)
+    Ok(n)
 }
 
 // C is judged, and N says the count.
-fn counted_led(control: u8, clear: u64) -> Count
+fn counted_led(control: u8, clear: u64) -> Result<usize, Refusal>
     ensures { result ≡ count_of (counted (Lead.Control control) (row 16 clear)) }
 {
     if nibbles::nibble(clear, 0) != control as u64 {
-        return Count::Bad(Refusal::Block20);
+        return Err(Refusal::Block20);
     }
-    Count::Of(nibbles::nibble(clear, 1) as usize)
+    Ok(nibbles::nibble(clear, 1) as usize)
 }
 
-fn counted_by(lead: Lead, clear: u64) -> Count
+fn counted_by(lead: Lead, clear: u64) -> Result<usize, Refusal>
     ensures { result ≡ count_of (counted lead (row 16 clear)) }
 {
     match lead {
@@ -68,41 +68,36 @@ fn fill_end(clear: u64, from: usize, least: u64) -> usize
 }
 
 // The digits behind the lead, where they and the fill are right.
-fn digits(f: Format, clear: u64, n: usize) -> Reading
+fn digits(f: Format, clear: u64, n: usize) -> Result<Pin, Refusal>
     requires { n ≤ 12 }
     ensures { result ≡ reading_of (contents f (row 16 clear) n) }
 {
     let from = f.lead().width();
     let to = from + n;
     if nibbles::run_end(clear, from, to, 0, 9) < to {
-        return Reading::Bad(Refusal::Block20);
+        return Err(Refusal::Block20);
     }
     if fill_end(clear, to, f.fill().least()) < 16 {
-        return Reading::Bad(Refusal::Block20);
+        return Err(Refusal::Block20);
     }
-    Reading::Got(Pin {
+    Ok(Pin {
         length: n,
         digits: nibbles::part(clear, from, n),
     })
 }
 
 // Reads a block under any veil: "C (20), N (24), then digits and fill (20)".
-pub fn read(f: Format, with: u64, block: u64) -> Reading
+pub fn read(f: Format, with: u64, block: u64) -> Result<Pin, Refusal>
     ensures { result ≡ reading_of (read_row f (row 16 with) (row 16 block)) }
 {
     let clear = under_veil(f, with, block);
-    let counted = counted_by(f.lead(), clear);
-    let Count::Of(said) = counted else {
-        return Reading::Bad(Refusal::Block20);
-    };
-    let measured = pins::pin_length(said);
-    let Count::Of(n) = measured else {
-        return Reading::Bad(Refusal::Length24);
-    };
+    let said = counted_by(f.lead(), clear)?;
+    let n = pins::pin_length(said)?;
     digits(f, clear, n)
 }
 
 // C and N and the digits, or the digits alone.
+#[tactic(auto, using(crate::proofs::Laws::proper_small))]
 fn head(lead: Lead, pin: Pin) -> u64
     requires { Proper pin }
     ensures { result ≡ word (leads lead pin.length ++ digits_of pin) }
@@ -119,9 +114,7 @@ fn fill_from(kind: Fill, fill: u64, from: usize) -> u64
     ensures { result ≡ word (map (filled kind) (drop from (row 16 fill))) }
 {
     let mut w: u64 = 0;
-    let mut i: usize = 16;
-    while from < i {
-        i -= 1;
+    for i in (from..16).rev() {
         w = w * 16 + kind.filled(nibbles::nibble(fill, i));
     }
     w

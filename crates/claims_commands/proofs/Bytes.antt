@@ -17,7 +17,7 @@ use Rattle.bkfields.specs.BkFields.{bk_fields}
 use Rattle.fields.specs.Fields.{Ruling}
 use Rattle.responses.specs.Responses.{responding}
 use Rattle.commands.specs.Commands.{answered}
-use Rattle.commands.proofs.Laws.{answered_framed}
+use Rattle.claims_commands.proofs.Opened.{answered_framed}
 use Rattle.claims_numbers.proofs.Numbers.{never_00}
 use Rattle.claims_alike.specs.Alike.{Layout, fields, Outside}
 use Rattle.claims_alike.proofs.Alike as any

@@ -1,5 +1,6 @@
 -- For what the fields of a command are refused: reader by reader, then stage by stage.
 -- Assumes nothing.
+use Rattle.std.specs.Prelude.{Option}
 use Prim.Native.Nat.{ℕ, ◌+◌, ◌-◌, ◌*◌}
 use mathlib.Core.Path.{◌≡◌, refl, sym, ap, ◌∙◌, subst}
 use mathlib.Core.List.{List, [], ◌∷◌}
@@ -23,7 +24,6 @@ use Rattle.fields.specs.Fields.{Found, Stage, read, faulty, run, number, two_dig
 use Rattle.fields.proofs.Rulings.{heard_pointing}
 use Rattle.fields.specs.declared.Fault.{Fault}
 use Rattle.lmk.specs.Lmk.{lmk_field, present}
-use Rattle.lmk.specs.declared.Lmk.{Lmk}
 use Rattle.uses.specs.Uses.{pin_key, pvk, verifying_pvk, permits}
 use Rattle.uses.specs.declared.Use.{Use}
 use Rattle.keylengths.specs.KeyLengths.{said_length, block_length}
@@ -162,10 +162,10 @@ block_gives for cs =
     (λ id. done_only OfFields _))))
 
 -- the same, and 26 for another letter
-admitted_gives : (b : Bool) (o : Found Lmk) → Only OfFields o → Only OfFields (admitted b o)
+admitted_gives : (b : Bool) (o : Found (Option ℕ)) → Only OfFields o → Only OfFields (admitted b o)
 admitted_gives b o c = either_only OfFields b _ _ c (refused_only OfFields Key26 refl)
 
-behind_gives : (b : Bool) (o : Found Lmk) → Only OfFields o → Only OfFields (behind 1 (admitted b o))
+behind_gives : (b : Bool) (o : Found (Option ℕ)) → Only OfFields o → Only OfFields (behind 1 (admitted b o))
 behind_gives b o c = behind_only OfFields 1 (admitted b o) (admitted_gives b o c)
 
 lettered_gives : (letters : Letters) (for : Use) (cs : List ℕ) → Only OfFields (lettered letters for cs)
@@ -271,7 +271,7 @@ unfolding weak
 listing_gives first mark s at = fielded_only OfWeak first at (weak_field mark at (drop at s)) _ (weak_gives mark at (drop at s)) (λ w next. done_only OfWeak w)
 
 -- what is left over and ids that do not agree are 15
-closed_gives : (ks : Keys) (own : Lmk) (first at : ℕ) (s : List ℕ) (mark past : ℕ) → Only OfFields (outcome (closed ks own first at s mark past))
+closed_gives : (ks : Keys) (own : Option ℕ) (first at : ℕ) (s : List ℕ) (mark past : ℕ) → Only OfFields (outcome (closed ks own first at s mark past))
 closed_gives ks own first at s mark past = by_test (leb (length s) past) (all_agree ks own)
   where
     last : (there : Bool) (f g : Fault) → OfFields f.refusal → OfFields g.refusal → OfFields (cond there f g).refusal

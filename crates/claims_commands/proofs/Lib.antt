@@ -1,3 +1,4 @@
+pub mod Opened
 pub mod Fields
 pub mod Shapes
 pub mod Listing

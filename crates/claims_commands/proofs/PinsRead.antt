@@ -26,7 +26,7 @@ use Rattle.fields.proofs.Reading.{ruled_read}
 use Rattle.fields.proofs.Rulings.{heard_then, heard_pointing}
 use Rattle.bkfinish.specs.BkFinish.{bk_finish}
 use Rattle.commands.specs.Commands.{answer_by, answered}
-use Rattle.commands.proofs.Laws.{answered_901, answered_902, answered_framed}
+use Rattle.claims_commands.proofs.Opened.{answered_901, answered_902, answered_framed}
 use Rattle.claims_blocks.specs.Promises.{listed}
 use Rattle.claims_blocks.proofs.Judged.{Only, done_only, refused_only}
 use Rattle.claims_commands.specs.Runs.{code_in, Finds, pair_in}

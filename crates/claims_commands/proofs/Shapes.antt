@@ -28,7 +28,8 @@ use Rattle.offsetting.specs.Offsetting.{account_in, validation_in}
 use Rattle.offsetting.specs.declared.Offsetting.{Offsetting}
 use Rattle.pairing.specs.Pairing.{asked_at}
 use Rattle.commands.specs.Commands.{ask_by, answer_by, answered, commanded}
-use Rattle.commands.proofs.Laws.{answered_framed, answer_by_sound}
+use Rattle.commands.proofs.Laws.{answer_by_sound}
+use Rattle.claims_commands.proofs.Opened.{answered_framed}
 use Rattle.claims_blocks.proofs.Judged.{Only, done_only, test_only, then_only}
 use Rattle.claims_numbers.proofs.Refused.{row_only, sized_only, validation_only}
 use Rattle.claims_commands.specs.Runs.{Reached}

@@ -20,7 +20,7 @@ use Rattle.fields.specs.declared.Fault.{Fault}
 use Rattle.keybox.specs.KeyBox.{slices, parities, boxed}
 use Rattle.responses.specs.Responses.{payload_text, responding}
 use Rattle.commands.specs.Commands.{answer_by, asked, answered}
-use Rattle.commands.proofs.Laws.{asked_framed, answered_framed}
+use Rattle.claims_commands.proofs.Opened.{asked_framed, answered_framed}
 use Rattle.texts.specs.Texts.{as_two_digits}
 use Rattle.claims_blocks.specs.Promises.{listed}
 use Rattle.claims_blocks.proofs.Judged.{Only}

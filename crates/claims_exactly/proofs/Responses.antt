@@ -26,7 +26,7 @@ use Rattle.fields.specs.Fields.{heard}
 use Rattle.responses.specs.Responses.{responding}
 use Rattle.weak.specs.Weak.{is_on}
 use Rattle.commands.specs.Commands.{ask_by, answer_by, asked, answered, commanded}
-use Rattle.commands.proofs.Laws.{asked_902, asked_framed, answered_902, answered_framed}
+use Rattle.claims_commands.proofs.Opened.{asked_902, asked_framed, answered_902, answered_framed}
 use Rattle.texts.specs.Characters.{printed}
 use Rattle.texts_data.specs.DataTexts.{weak_pins_of}
 use Rattle.claims_blocks.specs.Promises.{listed}

@@ -10,8 +10,7 @@ restriction_once = record {
 
 pub pairs_once : PairsSettled
 pairs_once = record {
-  Pair-by = λ κs a r r' ends ends'. settled;
-  Pair-refusal = λ κs a r r' ends ends'. settled;
+  pair = λ κs a r r' ends ends'. settled;
 }
 
 pub answers_once : AnswersSettled
@@ -85,13 +84,12 @@ pvv_once = record {
 
 pub offsets_once : OffsetsSettled
 offsets_once = record {
-  Comparison-refusal = λ κs a r r' ends ends'. settled;
-  taken = λ κs a r r' ends ends'. settled;
+  taken = λ κs a r r' ends ends' p q. settled p.0 q.0;
   with_natural = λ κs a r r' ends ends'. settled;
   paired = λ κs a r r' ends ends'. settled;
   offset_for = λ κs a r r' ends ends'. settled;
   answer = λ κs a r r' ends ends'. answered 1;
-  offset = λ κs a r r' ends ends'. answered 7;
+  offset = λ κs a r r' ends ends'. answered 2;
   offset_of_digits = λ κs a r r' ends ends'. answered 4;
   differences = λ κs a r r' ends ends'. answered 4;
 }

@@ -18,7 +18,6 @@ permutations_once = record {
 
 pub s_boxes_once : SBoxesSettled
 s_boxes_once = record {
-  table = λ κs a r r' ends ends'. settled;
   through = λ κs a r r' ends ends'. settled_beside;
 }
 
@@ -29,25 +28,21 @@ cipher_function_once = record {
 
 pub key_schedule_once : KeyScheduleSettled
 key_schedule_once = record {
-  table = λ κs a r r' ends ends'. settled;
   subkeys = λ κs a r r' ends ends'. settled;
 }
 
 pub des_once : DesSettled
 des_once = record {
   onward = λ κs a r r' ends ends'. settled;
-  backward = λ κs a r r' ends ends'. settled;
   parted = λ κs a r r' ends ends'. settled;
   interchange = λ κs a r r' ends ends'. settled;
   preoutput = λ κs a r r' ends ends'. settled;
-  encipher_by = λ κs a r r' ends ends'. settled;
-  decipher_by = λ κs a r r' ends ends'. settled;
+  computed_by = λ κs a r r' ends ends'. settled;
 }
 
 pub triple_des_once : TripleDesSettled
 triple_des_once = record {
-  encipher_by = λ κs a r r' ends ends'. settled;
-  decipher_by = λ κs a r r' ends ends'. settled;
+  computed_by = λ κs a r r' ends ends'. settled;
 }
 
 pub words_once : WordsSettled

@@ -5,16 +5,13 @@ use Rattle.claims_functions.proofs.Once.{settled, left, told, told_refused}
 
 pub key_box_once : KeyBoxSettled
 key_box_once = record {
-  BoxRead-fault = λ κs a r r' ends ends'. settled;
-  key_box = λ κs a r r' ends ends'. settled;
+  key_box = λ κs a r r' ends ends' p q. settled p.0 q.0;
 }
 
 pub responses_once : ResponsesSettled
 responses_once = record {
   Told-refused = λ κs a r r' ends ends'. told_refused;
-  Asked-of = λ κs a r r' ends ends'. settled;
-  Asked-row = λ κs a r r' ends ends'. settled;
-  Asked-pointer = λ κs a r r' ends ends'. settled;
+  Told-done = λ κs a r r' ends ends'. told_refused;
   ask = λ κs a r r' ends ends'. told 1;
   respond = λ κs a r r' ends ends'. told 3;
 }
@@ -30,11 +27,9 @@ frame_once = record {
 
 pub fields_once : FieldsSettled
 fields_once = record {
-  Value-refusal = λ κs a r r' ends ends'. settled;
   Fault-pointer = λ κs a r r' ends ends'. settled;
   fault_at = λ κs a r r' ends ends'. settled;
-  unpointed = λ κs a r r' ends ends'. settled;
-  no_fault = λ κs a r r' ends ends'. settled;
+  FaultFromRefusal-from = λ κs a r r' ends ends'. settled;
   two_digits = λ κs a r r' ends ends'. settled;
   Cursor-run = λ κs a r r' ends ends'. settled;
   Cursor-number = λ κs a r r' ends ends'. settled;
@@ -44,9 +39,7 @@ fields_once = record {
 
 pub lmk_once : LmkSettled
 lmk_once = record {
-  Keyed-refusal = λ κs a r r' ends ends'. settled;
-  Lmk-is_present = λ κs a r r' ends ends'. settled;
-  Lmk-agrees = λ κs a r r' ends ends'. settled;
+  agree = λ κs a r r' ends ends'. settled;
   lmk_field = λ κs a r r' ends ends'. settled;
 }
 
@@ -72,13 +65,11 @@ weak_once = record {
 
 pub weak_field_once : WeakFieldSettled
 weak_field_once = record {
-  WeakRead-refusal = λ κs a r r' ends ends'. settled;
   weak_field = λ κs a r r' ends ends'. settled;
 }
 
 pub format_field_once : FormatFieldSettled
 format_field_once = record {
-  FormatRead-refusal = λ κs a r r' ends ends'. settled;
   format_field = λ κs a r r' ends ends'. settled;
 }
 
@@ -90,32 +81,27 @@ offset_field_once = record { offset_field = λ κs a r r' ends ends'. settled }
 
 pub key_fields_once : KeyFieldsSettled
 key_fields_once = record {
-  KeysRead-fault = λ κs a r r' ends ends'. settled;
   read_pair = λ κs a r r' ends ends'. settled;
   read_keys = λ κs a r r' ends ends'. settled;
 }
 
 pub sealed_once : SealedSettled
 sealed_once = record {
-  SealedRead-fault = λ κs a r r' ends ends'. settled;
   read_sealed = λ κs a r r' ends ends'. settled;
 }
 
 pub offsetting_once : OffsettingSettled
 offsetting_once = record {
-  OffsettingRead-fault = λ κs a r r' ends ends'. settled;
   read_offsetting = λ κs a r r' ends ends'. settled;
 }
 
 pub weak_list_once : WeakListSettled
 weak_list_once = record {
-  WeakStage-fault = λ κs a r r' ends ends'. settled;
   read_weak = λ κs a r r' ends ends'. settled;
 }
 
 pub endings_once : EndingsSettled
 endings_once = record {
-  End-fault = λ κs a r r' ends ends'. settled;
   read_end = λ κs a r r' ends ends'. settled;
 }
 
@@ -128,7 +114,6 @@ pairing_once = record {
 
 pub bk_fields_once : BkFieldsSettled
 bk_fields_once = record {
-  BkRead-fault = λ κs a r r' ends ends'. settled;
   read = λ κs a r r' ends ends'. settled;
 }
 
@@ -144,7 +129,6 @@ bk_once = record {
 
 pub verify_fields_once : VerifyFieldsSettled
 verify_fields_once = record {
-  VerificationRead-fault = λ κs a r r' ends ends'. settled;
   read = λ κs a r r' ends ends'. settled;
 }
 
@@ -162,7 +146,7 @@ pub commands_once : CommandsSettled
 commands_once = record {
   ask = λ κs a r r' ends ends'. told 2;
   pin_block = λ κs a r r' ends ends'. told 2;
-  answer = λ κs a r r' ends ends'. told 6;
+  answer = λ κs a r r' ends ends'. told 3;
 }
 
 pub lab_once : LabSettled

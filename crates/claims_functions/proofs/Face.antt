@@ -5,10 +5,10 @@ use Rattle.claims_functions.proofs.Once.{settled, faces, widely, wide_verdict}
 
 pub face_once : FaceSettled
 face_once = record {
-  inner = λ κs a r r' ends ends'. settled;
-  flag = λ κs a r r' ends ends'. settled;
+  SettingsFromFaceSettings-from = λ κs a r r' ends ends'. settled;
+  FaceSettingsFromSettings-from = λ κs a r r' ends ends'. settled;
   wide = λ κs a r r' ends ends'. faces;
-  plain = λ κs a r r' ends ends'. faces;
+  FaceReplyFromReply-from = λ κs a r r' ends ends'. faces;
 }
 
 pub quillgimlet_once : QuillgimletSettled

@@ -36,6 +36,7 @@ pub numbers_once : NumbersSettled
 numbers_once = record {
   Reply-refused = λ κs a r r' ends ends'. replied;
   Reply-done = λ κs a r r' ends ends'. replied;
+  Reply-verdict = λ κs a r r' ends ends'. verdict;
   Refusal-number = λ κs a r r' ends ends'. settled;
 }
 
@@ -60,18 +61,14 @@ formats_once = record {
 
 pub codes_once : CodesSettled
 codes_once = record {
-  Code-of = λ κs a r r' ends ends'. settled;
+  CodeFromU32-from = λ κs a r r' ends ends'. settled;
   Code-is_known = λ κs a r r' ends ends'. settled;
-  Chosen-by = λ κs a r r' ends ends'. settled;
-  Chosen-refusal = λ κs a r r' ends ends'. settled;
+  chosen = λ κs a r r' ends ends'. settled;
   block_width = λ κs a r r' ends ends'. settled;
 }
 
 pub pins_once : PinsSettled
 pins_once = record {
-  Verdict-reply = λ κs a r r' ends ends'. verdict;
-  Reading-refusal = λ κs a r r' ends ends'. settled;
-  Row-refusal = λ κs a r r' ends ends'. settled;
   sized_row = λ κs a r r' ends ends'. settled;
   account = λ κs a r r' ends ends'. settled;
   field = λ κs a r r' ends ends'. settled;

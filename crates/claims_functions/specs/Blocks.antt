@@ -39,8 +39,7 @@ pub record RestrictionSettled : Type 0 where
 
 -- every public function of pairs
 pub record PairsSettled : Type 0 where
-  pub Pair-by : Settled PairsSays.Pair.by.ended Pairs.Pair.by.Reads.Learnt
-  pub Pair-refusal : Settled PairsSays.Pair.refusal.ended Pairs.Pair.refusal.Reads.Learnt
+  pub pair : Settled PairsSays.pair.ended Pairs.pair.Reads.Learnt
 
 -- every public function of answers
 pub record AnswersSettled : Type 0 where
@@ -102,7 +101,6 @@ pub record PvvSettled : Type 0 where
 
 -- every public function of offsets
 pub record OffsetsSettled : Type 0 where
-  pub Comparison-refusal : Settled OffsetsSays.Comparison.refusal.ended Offsets.Comparison.refusal.Reads.Learnt
   pub taken : Settled OffsetsSays.taken.ended Offsets.taken.Reads.Learnt
   pub with_natural : Settled OffsetsSays.with_natural.ended Offsets.with_natural.Reads.Learnt
   pub paired : Settled OffsetsSays.paired.ended Offsets.paired.Reads.Learnt

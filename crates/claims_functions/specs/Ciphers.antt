@@ -39,7 +39,6 @@ pub record PermutationsSettled : Type 0 where
 
 -- every public function of sboxes
 pub record SBoxesSettled : Type 0 where
-  pub table : Settled SBoxesSays.table.ended SBoxes.table.Reads.Learnt
   pub through : Settled SBoxesSays.through.ended SBoxes.through.Reads.Learnt
 
 -- every public function of cipherfunction
@@ -48,23 +47,19 @@ pub record CipherFunctionSettled : Type 0 where
 
 -- every public function of keyschedule
 pub record KeyScheduleSettled : Type 0 where
-  pub table : Settled KeyScheduleSays.table.ended KeySchedule.table.Reads.Learnt
   pub subkeys : Settled KeyScheduleSays.subkeys.ended KeySchedule.subkeys.Reads.Learnt
 
 -- every public function of des
 pub record DesSettled : Type 0 where
   pub onward : Settled DesSays.onward.ended Des.onward.Reads.Learnt
-  pub backward : Settled DesSays.backward.ended Des.backward.Reads.Learnt
   pub parted : Settled DesSays.parted.ended Des.parted.Reads.Learnt
   pub interchange : Settled DesSays.interchange.ended Des.interchange.Reads.Learnt
   pub preoutput : Settled DesSays.preoutput.ended Des.preoutput.Reads.Learnt
-  pub encipher_by : Settled DesSays.encipher_by.ended Des.encipher_by.Reads.Learnt
-  pub decipher_by : Settled DesSays.decipher_by.ended Des.decipher_by.Reads.Learnt
+  pub computed_by : Settled DesSays.computed_by.ended Des.computed_by.Reads.Learnt
 
 -- every public function of tripledes
 pub record TripleDesSettled : Type 0 where
-  pub encipher_by : Settled TripleDesSays.encipher_by.ended TripleDes.encipher_by.Reads.Learnt
-  pub decipher_by : Settled TripleDesSays.decipher_by.ended TripleDes.decipher_by.Reads.Learnt
+  pub computed_by : Settled TripleDesSays.computed_by.ended TripleDes.computed_by.Reads.Learnt
 
 -- every public function of words
 pub record WordsSettled : Type 0 where

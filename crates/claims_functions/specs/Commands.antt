@@ -63,15 +63,12 @@ use Rattle.claims_functions.specs.Once.{Settled}
 
 -- every public function of keybox
 pub record KeyBoxSettled : Type 0 where
-  pub BoxRead-fault : Settled KeyBoxSays.BoxRead.fault.ended KeyBox.BoxRead.fault.Reads.Learnt
   pub key_box : Settled KeyBoxSays.key_box.ended KeyBox.key_box.Reads.Learnt
 
 -- every public function of responses
 pub record ResponsesSettled : Type 0 where
   pub Told-refused : Settled ResponsesSays.Told.refused.ended Responses.Told.refused.Reads.Learnt
-  pub Asked-of : Settled ResponsesSays.Asked.of.ended Responses.Asked.of.Reads.Learnt
-  pub Asked-row : Settled ResponsesSays.Asked.row.ended Responses.Asked.row.Reads.Learnt
-  pub Asked-pointer : Settled ResponsesSays.Asked.pointer.ended Responses.Asked.pointer.Reads.Learnt
+  pub Told-done : Settled ResponsesSays.Told.done.ended Responses.Told.done.Reads.Learnt
   pub ask : Settled ResponsesSays.ask.ended Responses.ask.Reads.Learnt
   pub respond : Settled ResponsesSays.respond.ended Responses.respond.Reads.Learnt
 
@@ -85,11 +82,9 @@ pub record FrameSettled : Type 0 where
 
 -- every public function of fields
 pub record FieldsSettled : Type 0 where
-  pub Value-refusal : Settled FieldsSays.Value.refusal.ended Fields.Value.refusal.Reads.Learnt
   pub Fault-pointer : Settled FieldsSays.Fault.pointer.ended Fields.Fault.pointer.Reads.Learnt
   pub fault_at : Settled FieldsSays.fault_at.ended Fields.fault_at.Reads.Learnt
-  pub unpointed : Settled FieldsSays.unpointed.ended Fields.unpointed.Reads.Learnt
-  pub no_fault : Settled FieldsSays.no_fault.ended Fields.no_fault.Reads.Learnt
+  pub FaultFromRefusal-from : Settled FieldsSays.FaultFromRefusal.from.ended Fields.FaultFromRefusal.from.Reads.Learnt
   pub two_digits : Settled FieldsSays.two_digits.ended Fields.two_digits.Reads.Learnt
   pub Cursor-run : Settled FieldsSays.Cursor.run.ended Fields.Cursor.run.Reads.Learnt
   pub Cursor-number : Settled FieldsSays.Cursor.number.ended Fields.Cursor.number.Reads.Learnt
@@ -98,9 +93,7 @@ pub record FieldsSettled : Type 0 where
 
 -- every public function of lmk
 pub record LmkSettled : Type 0 where
-  pub Keyed-refusal : Settled LmkSays.Keyed.refusal.ended Lmk.Keyed.refusal.Reads.Learnt
-  pub Lmk-is_present : Settled LmkSays.Lmk.is_present.ended Lmk.Lmk.is_present.Reads.Learnt
-  pub Lmk-agrees : Settled LmkSays.Lmk.agrees.ended Lmk.Lmk.agrees.Reads.Learnt
+  pub agree : Settled LmkSays.agree.ended Lmk.agree.Reads.Learnt
   pub lmk_field : Settled LmkSays.lmk_field.ended Lmk.lmk_field.Reads.Learnt
 
 -- every public function of uses
@@ -126,12 +119,10 @@ pub record WeakSettled : Type 0 where
 
 -- every public function of weakfield
 pub record WeakFieldSettled : Type 0 where
-  pub WeakRead-refusal : Settled WeakFieldSays.WeakRead.refusal.ended WeakField.WeakRead.refusal.Reads.Learnt
   pub weak_field : Settled WeakFieldSays.weak_field.ended WeakField.weak_field.Reads.Learnt
 
 -- every public function of formatfield
 pub record FormatFieldSettled : Type 0 where
-  pub FormatRead-refusal : Settled FormatFieldSays.FormatRead.refusal.ended FormatField.FormatRead.refusal.Reads.Learnt
   pub format_field : Settled FormatFieldSays.format_field.ended FormatField.format_field.Reads.Learnt
 
 -- every public function of validationfield
@@ -144,28 +135,23 @@ pub record OffsetFieldSettled : Type 0 where
 
 -- every public function of keyfields
 pub record KeyFieldsSettled : Type 0 where
-  pub KeysRead-fault : Settled KeyFieldsSays.KeysRead.fault.ended KeyFields.KeysRead.fault.Reads.Learnt
   pub read_pair : Settled KeyFieldsSays.read_pair.ended KeyFields.read_pair.Reads.Learnt
   pub read_keys : Settled KeyFieldsSays.read_keys.ended KeyFields.read_keys.Reads.Learnt
 
 -- every public function of sealed
 pub record SealedSettled : Type 0 where
-  pub SealedRead-fault : Settled SealedSays.SealedRead.fault.ended Sealed.SealedRead.fault.Reads.Learnt
   pub read_sealed : Settled SealedSays.read_sealed.ended Sealed.read_sealed.Reads.Learnt
 
 -- every public function of offsetting
 pub record OffsettingSettled : Type 0 where
-  pub OffsettingRead-fault : Settled OffsettingSays.OffsettingRead.fault.ended Offsetting.OffsettingRead.fault.Reads.Learnt
   pub read_offsetting : Settled OffsettingSays.read_offsetting.ended Offsetting.read_offsetting.Reads.Learnt
 
 -- every public function of weaklist
 pub record WeakListSettled : Type 0 where
-  pub WeakStage-fault : Settled WeakListSays.WeakStage.fault.ended WeakList.WeakStage.fault.Reads.Learnt
   pub read_weak : Settled WeakListSays.read_weak.ended WeakList.read_weak.Reads.Learnt
 
 -- every public function of endings
 pub record EndingsSettled : Type 0 where
-  pub End-fault : Settled EndingsSays.End.fault.ended Endings.End.fault.Reads.Learnt
   pub read_end : Settled EndingsSays.read_end.ended Endings.read_end.Reads.Learnt
 
 -- every public function of pairing
@@ -176,7 +162,6 @@ pub record PairingSettled : Type 0 where
 
 -- every public function of bkfields
 pub record BkFieldsSettled : Type 0 where
-  pub BkRead-fault : Settled BkFieldsSays.BkRead.fault.ended BkFields.BkRead.fault.Reads.Learnt
   pub read : Settled BkFieldsSays.read.ended BkFields.read.Reads.Learnt
 
 -- every public function of bkfinish
@@ -191,7 +176,6 @@ pub record BkSettled : Type 0 where
 
 -- every public function of verifyfields
 pub record VerifyFieldsSettled : Type 0 where
-  pub VerificationRead-fault : Settled VerifyFieldsSays.VerificationRead.fault.ended VerifyFields.VerificationRead.fault.Reads.Learnt
   pub read : Settled VerifyFieldsSays.read.ended VerifyFields.read.Reads.Learnt
 
 -- every public function of verifyfinish

@@ -8,10 +8,10 @@ use Rattle.claims_functions.specs.Once.{Settled}
 
 -- every public function of face
 pub record FaceSettled : Type 0 where
-  pub inner : Settled CrossingSays.inner.ended Crossing.inner.Reads.Learnt
-  pub flag : Settled CrossingSays.flag.ended Crossing.flag.Reads.Learnt
+  pub SettingsFromFaceSettings-from : Settled CrossingSays.SettingsFromFaceSettings.from.ended Crossing.SettingsFromFaceSettings.from.Reads.Learnt
+  pub FaceSettingsFromSettings-from : Settled CrossingSays.FaceSettingsFromSettings.from.ended Crossing.FaceSettingsFromSettings.from.Reads.Learnt
   pub wide : Settled CrossingSays.wide.ended Crossing.wide.Reads.Learnt
-  pub plain : Settled CrossingSays.plain.ended Crossing.plain.Reads.Learnt
+  pub FaceReplyFromReply-from : Settled CrossingSays.FaceReplyFromReply.from.ended Crossing.FaceReplyFromReply.from.Reads.Learnt
 
 -- every call of quillgimlet
 pub record QuillgimletSettled : Type 0 where

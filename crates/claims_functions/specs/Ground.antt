@@ -51,6 +51,7 @@ pub record SpellingSettled : Type 0 where
 pub record NumbersSettled : Type 0 where
   pub Reply-refused : Settled NumbersSays.Reply.refused.ended Numbers.Reply.refused.Reads.Learnt
   pub Reply-done : Settled NumbersSays.Reply.done.ended Numbers.Reply.done.Reads.Learnt
+  pub Reply-verdict : Settled NumbersSays.Reply.verdict.ended Numbers.Reply.verdict.Reads.Learnt
   pub Refusal-number : Settled NumbersSays.Refusal.number.ended Numbers.Refusal.number.Reads.Learnt
 
 -- every public function of settings
@@ -72,17 +73,13 @@ pub record FormatsSettled : Type 0 where
 
 -- every public function of codes
 pub record CodesSettled : Type 0 where
-  pub Code-of : Settled CodesSays.Code.of.ended Codes.Code.of.Reads.Learnt
+  pub CodeFromU32-from : Settled CodesSays.CodeFromU32.from.ended Codes.CodeFromU32.from.Reads.Learnt
   pub Code-is_known : Settled CodesSays.Code.is_known.ended Codes.Code.is_known.Reads.Learnt
-  pub Chosen-by : Settled CodesSays.Chosen.by.ended Codes.Chosen.by.Reads.Learnt
-  pub Chosen-refusal : Settled CodesSays.Chosen.refusal.ended Codes.Chosen.refusal.Reads.Learnt
+  pub chosen : Settled CodesSays.chosen.ended Codes.chosen.Reads.Learnt
   pub block_width : Settled CodesSays.block_width.ended Codes.block_width.Reads.Learnt
 
 -- every public function of pins
 pub record PinsSettled : Type 0 where
-  pub Verdict-reply : Settled PinsSays.Verdict.reply.ended Pins.Verdict.reply.Reads.Learnt
-  pub Reading-refusal : Settled PinsSays.Reading.refusal.ended Pins.Reading.refusal.Reads.Learnt
-  pub Row-refusal : Settled PinsSays.Row.refusal.ended Pins.Row.refusal.Reads.Learnt
   pub sized_row : Settled PinsSays.sized_row.ended Pins.sized_row.Reads.Learnt
   pub account : Settled PinsSays.account.ended Pins.account.Reads.Learnt
   pub field : Settled PinsSays.field.ended Pins.field.Reads.Learnt

@@ -11,7 +11,7 @@ use lib.Dec.{leb}
 use borrow.Author.Tests.{lt-leb, le-leb, eq-eqb}
 use Rattle.nibbles.specs.Nibbles.{within, every}
 use Rattle.nibbles.proofs.Lists.{Below, same_refl}
-use Rattle.nibbles.proofs.Runs.{inside, inside_high, every_below, below_every}
+use Rattle.nibbles.proofs.Runs.{inside, inside_high, below_every}
 use Rattle.alphabet.specs.Alphabet.{admits, value_of, characters}
 use Rattle.alphabet.specs.declared.Class.TheVariants.{Digit}
 use Rattle.numbers.specs.Numbers.{done, unless}
@@ -26,7 +26,6 @@ use Rattle.offsets.specs.Offsets.{given, pin_and_natural, offset_for, offset_jud
 use Rattle.offsets.proofs.Laws.{offset_parts, pair_alike, given_laid, covers_within}
 use Rattle.verdicts.specs.Verdicts.{offset_verdict}
 use Rattle.claims_blocks.proofs.Lists.{run_is, every_map}
-use Rattle.claims_blocks.specs.Claims.{IsBytes}
 use Rattle.claims_offsets.specs.Claims.{OffsetVerifies}
 use Rattle.claims_numbers.proofs.Counts.{covers_four, given_check}
 use Rattle.claims_offsets.proofs.Verdicts.{verdict_compares}
@@ -74,11 +73,10 @@ module _ (variable : Bool) (code check m : ℕ) (block account table enciphered 
   digits = offset_of m p.0 p.1
 
   verifies :
-      IsBytes block → IsBytes enciphered → given code check block account table enciphered ≡ done g → pin_and_natural code table g ≡ done p
-      → covers variable check (length p.0) ≡ done m
+      given code check block account table enciphered ≡ done g → pin_and_natural code table g ≡ done p → covers variable check (length p.0) ≡ done m
       → offset_verdict variable code check block account table enciphered (offset_text digits) ≡ done []
-  verifies b c x y z =
-      let laid = given_laid code check block account table enciphered (every_below 255 block b) (every_below 255 enciphered c) g x in
+  verifies x y z =
+      let laid = given_laid code check block account table enciphered g x in
       let alike = pair_alike code check block account table enciphered g laid p y in
       let few = covers_within variable check (length p.0) m z in
       let many = offset_many m p.0 p.1 few alike.long in
@@ -94,4 +92,4 @@ offset_verifies variable code check block account table enciphered text room b c
     let p = then_done (pin_and_natural code table g.0) _ o.0 g.2 in
     let t = for_done variable check p.0 o.0 p.2 in
     let spelled : offset_text (offset_of t.0 p.0.0 p.0.1) ≡ text = cc in
-    rw (← spelled) (verifies variable code check t.0 block account table enciphered g.0 p.0 b c g.1 p.1 t.1)
+    rw (← spelled) (verifies variable code check t.0 block account table enciphered g.0 p.0 g.1 p.1 t.1)

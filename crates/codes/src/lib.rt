@@ -3,7 +3,7 @@
 
 ghost use Rattle.std.specs.Prelude.{◌≡◌};
 ghost use Rattle.codes.specs.Codes.{code_of, is_known, format_of, block_width};
-ghost use Rattle.codes.specs.Answers.{chosen_of, refusal_in};
+ghost use Rattle.codes.specs.Answers.{chosen_of};
 
 use formats::Format;
 use numbers::Refusal;
@@ -16,17 +16,11 @@ pub enum Code {
     Unknown,
 }
 
-// The format of a code, or why it has none here.
-#[derive(Clone, Copy)]
-pub enum Chosen {
-    Of(Format),
-    Bad(Refusal),
-}
+impl From<u32> for Code {
+    ghost from_gives = { λ code named. named ≡ code_of code };
 
-impl Code {
-    pub fn of(code: u32) -> Code
-        ensures { result ≡ code_of code }
-    {
+    #[tactic(auto, unfolding(crate::specs::Codes::code_of))]
+    fn from(code: u32) -> Code {
         match code {
             1 => Code::Built(Format::F01),
             3 => Code::Built(Format::F03),
@@ -40,38 +34,24 @@ impl Code {
             _ => Code::Unknown,
         }
     }
+}
 
+impl Code {
     pub fn is_known(self) -> bool
         ensures { result ≡ is_known self }
     {
-        match self {
-            Code::Built(_) => true,
-            Code::Known => true,
-            Code::Unknown => false,
-        }
+        !matches!(self, Code::Unknown)
     }
 }
 
-impl Chosen {
-    // The format that a code names: 23, then 69.
-    pub fn by(code: u32) -> Chosen
-        ensures { result ≡ chosen_of (format_of (code_of code)) }
-    {
-        match Code::of(code) {
-            Code::Built(f) => Chosen::Of(f),
-            Code::Known => Chosen::Bad(Refusal::NotHere69),
-            Code::Unknown => Chosen::Bad(Refusal::Format23),
-        }
-    }
-
-    // Why there is no format; asked only where there is none.
-    pub fn refusal(self) -> Refusal
-        ensures { result ≡ refusal_in self }
-    {
-        match self {
-            Chosen::Of(_) => Refusal::NotHere69,
-            Chosen::Bad(q) => q,
-        }
+// The format that a code names: 23, then 69.
+pub fn chosen(code: u32) -> Result<Format, Refusal>
+    ensures { result ≡ chosen_of (format_of (code_of code)) }
+{
+    match Code::from(code) {
+        Code::Built(f) => Ok(f),
+        Code::Known => Err(Refusal::NotHere69),
+        Code::Unknown => Err(Refusal::Format23),
     }
 }
 

@@ -2,20 +2,22 @@
 -- Assumes nothing.
 use Prim.Native.Nat.{ℕ, ◌+◌, ◌≤◌, ◌<◌}
 use native.Mathlib.Omega.{arith}
-use mathlib.Core.Path.{◌≡◌, refl}
+use mathlib.Core.Path.{◌≡◌, refl, sym, ap, ◌∙◌}
 use mathlib.Core.List.{List}
 use mathlib.Core.Bool.{Bool, true, false}
+use Rattle.std.specs.Prelude.{Ok, Err}
 use lib.ListN.{drop}
 use lib.Dec.{leb}
-use borrow.Author.Tests.{leb-true, lt-leb, le-leb}
+use borrow.Author.Tests.{leb-true}
 use Rattle.nibbles.specs.Nibbles.{packs}
 use Rattle.numbers.specs.Numbers.{Outcome, done, refused, and_then, unless, number_of}
 use Rattle.numbers.specs.Promise.{Does, quietly}
 use Rattle.numbers.specs.declared.Refusal.{Refusal}
 use Rattle.numbers.specs.declared.Refusal.TheVariants.{Room901, Frame902}
 use Rattle.numbers.specs.declared.Reply.{Reply}
-use Rattle.numbers.proofs.Laws.{then_done, passed}
+use Rattle.numbers.proofs.Laws.{then_done, passed, result_ok, result_err}
 use Rattle.settings.specs.declared.Settings.{Settings}
+use Rattle.pins.specs.Answers.{count_of}
 use Rattle.answers.proofs.Laws.{Sixteen}
 use Rattle.frame.specs.Frame.{is_framed, framed, code_of}
 use Rattle.frame.specs.declared.Code.{Code}
@@ -29,16 +31,21 @@ use Rattle.bk.proofs.Places.{asked_row_lem, extracted_row, answer_sound}
 use Rattle.verify.proofs.Places as verify
 use Rattle.commands.specs.Commands.{ask_by, extract_by, answer_by, opened, asking, asked, extracting, answered, commanded, replying}
 
+-- ---- 901, 902
+
+module _ (least room header : ℕ) (s : List ℕ) where
+  -- where both are passed the command's code stands behind the header, and there is room
+  pub opened_ok : (code : ℕ) → Ok code ≡ count_of (opened least room header s) → (opened least room header s ≡ done code) × (least ≤ room) × (code ≡ header) × (is_framed header s ≡ true)
+  opened_ok code e =
+      let o = result_ok (λ (n : ℕ). n) (opened least room header s) code e in
+      let r = then_done (unless Room901 (leb least room) room) (λ _. framed header s) o.0 o.1 in
+      let f = passed Frame902 (is_framed header s) header o.0 r.2 in
+      (o.1 ∙ ap done (sym o.2), leb-true least room (passed Room901 (leb least room) room r.0 r.1).0, o.2 ∙ sym f.1, f.0)
+
+  pub opened_err : (q : Refusal) → Err q ≡ count_of (opened least room header s) → opened least room header s ≡ refused q
+  opened_err q e = result_err (λ (n : ℕ). n) (opened least room header s) q e
+
 -- ---- the asking call
-
-module _ (settings : Settings) (s : List ℕ) (room : ℕ) where
-  pub asked_902 : 8 ≤ room → is_framed settings.header s ≡ false → asked settings s room ≡ refused Frame902
-  unfolding asking
-  asked_902 r f = rw (le-leb 8 room r, f)
-
-  pub asked_framed : 8 ≤ room → is_framed settings.header s ≡ true → asked settings s room ≡ heard (ask_by (code_of (drop settings.header s)) settings s (settings.header + 2))
-  unfolding asking
-  asked_framed r f = rw (le-leb 8 room r, f)
 
 -- what a call with room for eight bytes writes is a block, and there is room for it, where behind the frame it is the bytes of a row
 opened_block :
@@ -84,35 +91,28 @@ answer_by_sound Ea settings g h s at block enciphered d e = verify.answer_sound 
 answer_by_sound Other settings g h s at block enciphered d e = absurd (let z : ◌≡◌ {A = ℕ} 0 1 = cc in omega arith)
 
 module _ (settings : Settings) (g h : Bool) (s block enciphered : List ℕ) (room : ℕ) where
-  pub answered_901 : room < 65 → answered settings g h s block enciphered room ≡ quietly (refused Room901)
+  -- what is refused before the frame is answered with no byte, and shown nowhere
+  pub answered_silent : (q : Refusal) → opened 65 room settings.header s ≡ refused q → answered settings g h s block enciphered room ≡ quietly (refused q)
   unfolding answered
-  answered_901 r = rw (lt-leb 65 room r)
+  answered_silent q e = rw e
 
-  pub answered_902 : 65 ≤ room → is_framed settings.header s ≡ false → answered settings g h s block enciphered room ≡ quietly (refused Frame902)
+  pub answered_framed : (code : ℕ) → opened 65 room settings.header s ≡ done code → answered settings g h s block enciphered room ≡ responding settings.header s (heard (commanded settings g h s block enciphered code))
   unfolding answered
-  answered_902 r f = rw (le-leb 65 room r, f)
-
-  pub answered_framed : 65 ≤ room → is_framed settings.header s ≡ true → answered settings g h s block enciphered room ≡ responding settings.header s (heard (commanded settings g h s block enciphered settings.header))
-  unfolding answered
-  answered_framed r f = rw (le-leb 65 room r, f)
+  answered_framed code e = rw e
 
   -- and the fault that is shown
-  pub replying_901 : room < 65 → shown (replying settings g h s block enciphered room) ≡ nowhere
+  pub replying_silent : (q : Refusal) → opened 65 room settings.header s ≡ refused q → shown (replying settings g h s block enciphered room) ≡ nowhere
   unfolding replying
-  replying_901 r = rw (lt-leb 65 room r)
+  replying_silent q e = rw e
 
-  pub replying_902 : 65 ≤ room → is_framed settings.header s ≡ false → shown (replying settings g h s block enciphered room) ≡ nowhere
+  pub replying_framed : (code : ℕ) → opened 65 room settings.header s ≡ done code → replying settings g h s block enciphered room ≡ commanded settings g h s block enciphered code
   unfolding replying
-  replying_902 r f = rw (le-leb 65 room r, f)
-
-  pub replying_framed : 65 ≤ room → is_framed settings.header s ≡ true → replying settings g h s block enciphered room ≡ commanded settings g h s block enciphered settings.header
-  unfolding replying
-  replying_framed r f = rw (le-leb 65 room r, f)
+  replying_framed code e = rw e
 
   -- a refusal that wrote nothing
   pub does_nothing : (q : Refusal) (before : List ℕ) (r : Reply) → answered settings g h s block enciphered room ≡ quietly (refused q) → r.number ≡ number_of q → r.written ≡ 0 → Does (answered settings g h s block enciphered room) before r before
   does_nothing q before r e n w = rw e (record { number = n; count = w; buffer = refl })
 
   -- a response that was written
-  pub does_answered : (o : Outcome (List ℕ)) (before after : List ℕ) (r : Reply) → answered settings g h s block enciphered room ≡ responding settings.header s o → Does (responding settings.header s o) before r after → Does (answered settings g h s block enciphered room) before r after
-  does_answered o before after r e d = rw e d
+  pub does_answered : (header : ℕ) (o : Outcome (List ℕ)) (before after : List ℕ) (r : Reply) → answered settings g h s block enciphered room ≡ responding header s o → Does (responding header s o) before r after → Does (answered settings g h s block enciphered room) before r after
+  does_answered header o before after r e d = rw e d

@@ -1,6 +1,7 @@
 // The paper's exchange, "Run, not proved": a BK command, what it asks of the key box, and its response.
 #![tactic(auto)]
 
+use keybox::BoxAnswers;
 use settings::Settings;
 use std::io;
 
@@ -25,15 +26,13 @@ fn main(rt: HostRuntime) -> io::Result<()> {
     show_line(&rt, &classroom::hex(asked))?;
 
     let mut response = [0u8; 65];
-    let told = commands::answer(
-        settings,
-        true,
-        true,
-        &command,
-        &block,
-        &enciphered,
-        &mut response,
-    );
+    let answers = BoxAnswers {
+        pinparity: true,
+        pvkparity: true,
+        block: &block,
+        enciphered: &enciphered,
+    };
+    let told = commands::answer(settings, answers, &command, &mut response);
     let n = response.len().min(told.reply.written as usize);
     show_line(&rt, &response[..n])
 }

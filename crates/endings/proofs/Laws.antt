@@ -5,6 +5,7 @@ use native.Mathlib.Omega.{arith}
 use mathlib.Core.Path.{◌≡◌, refl, sym}
 use mathlib.Core.List.{List}
 use mathlib.Core.Bool.{Bool, true, false, cond}
+use Rattle.std.specs.Prelude.{Option, Ok, Err}
 use lib.ListN.{length, drop}
 use lib.Dec.{leb}
 use borrow.Author.Tests.{lt-leb, le-leb, leb-true}
@@ -13,26 +14,24 @@ use Rattle.fields.specs.Fields.{Stage, read, faulty, trailer}
 use Rattle.fields.specs.declared.Fault.{Fault}
 use Rattle.fields.proofs.Reading.{field_read, read_once, inside_from, trailer_33}
 use Rattle.lmk.specs.Lmk.{lmk_field}
-use Rattle.lmk.specs.declared.Lmk.{Lmk}
 use Rattle.lmk.proofs.Laws.{lmk_onward}
 use Rattle.endings.specs.Answers.{end_of}
-use Rattle.endings.specs.declared.End.TheVariants.{At, Bad}
 use Rattle.endings.specs.Endings.{closed, end, all_agree, last_id}
 use Rattle.keyfields.specs.declared.Keys.{Keys}
 
 -- ---- behind the code's answer: the trailer's place, or the fault
 
-pub end_found : (o : Stage ℕ) (mark : ℕ) → At mark ≡ end_of o → (past : ℕ) × (o ≡ read mark past)
+pub end_found : (o : Stage ℕ) (mark : ℕ) → Ok mark ≡ end_of o → (past : ℕ) × (o ≡ read mark past)
 end_found (read m past) mark e = (past, (let p : m ≡ mark = cc in rw p))
 end_found (faulty f) mark e = absurd (let z : ◌≡◌ {A = ℕ} 0 1 = cc in omega arith)
 
-pub end_bad : (o : Stage ℕ) (f : Fault) → Bad f ≡ end_of o → o ≡ faulty f
+pub end_bad : (o : Stage ℕ) (f : Fault) → Err f ≡ end_of o → o ≡ faulty f
 end_bad (read m past) f e = absurd (let z : ◌≡◌ {A = ℕ} 0 1 = cc in omega arith)
 end_bad (faulty g) f e = cc
 
 -- ---- the last fields, answer by answer
 
-module _ (ks : Keys) (own : Lmk) (first at : ℕ) (s : List ℕ) (mark past : ℕ) where
+module _ (ks : Keys) (own : Option ℕ) (first at : ℕ) (s : List ℕ) (mark past : ℕ) where
   -- something is left over
   pub closed_over : past < length s → closed ks own first at s mark past ≡ faulty (record { refusal = Field15; field = 0; place = past })
   closed_over h = rw (lt-leb (length s) past h)
@@ -47,7 +46,7 @@ module _ (ks : Keys) (own : Lmk) (first at : ℕ) (s : List ℕ) (mark past : �
 -- ---- an end that was read
 
 -- it is the trailer's mark, and nothing is left over
-closed_read : (ks : Keys) (own : Lmk) (first at : ℕ) (s : List ℕ) (mark past m p : ℕ) → closed ks own first at s mark past ≡ read m p → (m ≡ mark) × (length s ≤ past)
+closed_read : (ks : Keys) (own : Option ℕ) (first at : ℕ) (s : List ℕ) (mark past m p : ℕ) → closed ks own first at s mark past ≡ read m p → (m ≡ mark) × (length s ≤ past)
 closed_read ks own first at s mark past m p e = by_rest (leb (length s) past) refl e where
   none : {A : Type 0} {a : A} {n : ℕ} {f : Fault} → faulty f ≡ read a n → ⊥
   none h = let z : ◌≡◌ {A = ℕ} 0 1 = cc in omega arith

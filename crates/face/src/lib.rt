@@ -3,7 +3,7 @@
 
 ghost use Rattle.std.specs.Prelude.{◌≡◌, ◌≤◌};
 ghost use Rattle.fields.specs.Fields.{nowhere};
-ghost use Rattle.face.specs.Face.{settings_of, flag_of, reply_in, pointer_in};
+ghost use Rattle.face.specs.Face.{settings_of, face_of, reply_in, pointer_in};
 
 use fields::Pointer;
 use numbers::Reply;
@@ -18,20 +18,28 @@ pub struct FaceSettings {
     pub variable: u8,
 }
 
-pub fn inner(s: FaceSettings) -> Settings
-    ensures { result ≡ settings_of s }
-{
-    Settings {
-        header: s.header,
-        restricted: s.restricted != 0,
-        variable: s.variable != 0,
+impl From<FaceSettings> for Settings {
+    ghost from_gives = { λ s inner. inner ≡ settings_of s };
+
+    fn from(s: FaceSettings) -> Settings {
+        Settings {
+            header: s.header,
+            restricted: s.restricted != 0,
+            variable: s.variable != 0,
+        }
     }
 }
 
-pub fn flag(yes: bool) -> u8
-    ensures { result ≡ flag_of yes }
-{
-    if yes { 1 } else { 0 }
+impl From<Settings> for FaceSettings {
+    ghost from_gives = { λ inner s. s ≡ face_of inner };
+
+    fn from(inner: Settings) -> FaceSettings {
+        FaceSettings {
+            header: inner.header,
+            restricted: u8::from(inner.restricted),
+            variable: u8::from(inner.variable),
+        }
+    }
 }
 
 // A reply as it crosses the boundary: what every call answers, and what a command's call points at.
@@ -57,9 +65,11 @@ pub fn wide(reply: Reply, pointer: Pointer) -> FaceReply
     }
 }
 
-// That of a call below the command level, which points at nothing.
-pub fn plain(reply: Reply) -> FaceReply
-    ensures { (reply_in result ≡ reply) × (pointer_in result ≡ nowhere) }
-{
-    wide(reply, Pointer::NOWHERE)
+// That of a call below the command level points at nothing.
+impl From<Reply> for FaceReply {
+    ghost from_gives = { λ reply wide. (reply_in wide ≡ reply) × (pointer_in wide ≡ nowhere) };
+
+    fn from(reply: Reply) -> FaceReply {
+        wide(reply, Pointer::NOWHERE)
+    }
 }

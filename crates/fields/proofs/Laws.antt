@@ -3,13 +3,15 @@
 use Prim.Native.Nat.{ℕ, zero, suc, ◌+◌, ◌-◌, ◌*◌, ◌≤◌, ◌<◌}
 use native.Mathlib.Nat.{add_assoc, add-zero, zero-add, suc-add}
 use native.Mathlib.Omega.{arith}
-use mathlib.Core.Path.{◌≡◌, refl, sym, ap, ◌∙◌}
+use mathlib.Core.Path.{◌≡◌, refl, sym, ap, ◌∙◌, subst}
 use mathlib.Core.List.{List, [], ◌∷◌}
 use mathlib.Core.Bool.{Bool, true, false, ◌&&◌}
+use Rattle.std.specs.Prelude.{Some, None, Result, Ok, Err, MatchResult, IsErrAnd}
+use Rattle.std.proofs.lemmas.Result.{err_from_is_err_and}
 use lib.ListN.{length, get_or, take, drop, length-drop, drop_of_length-le}
 use lib.Seq.{slice, take-nil, drop-drop, drop-cons, get_or-drop}
 use lib.Dec.{leb, eqb}
-use borrow.Author.Tests.{leb-true, le-leb, lt-leb, eq-eqb, ne_eqb}
+use borrow.Author.Tests.{leb-true, le-leb, eq-eqb, ne_eqb}
 use Rattle.nibbles.specs.Nibbles.{within}
 use Rattle.nibbles.proofs.Runs.{inside, inside_low, inside_high}
 use Rattle.alphabet.specs.Alphabet.{all_of, begins, value_of}
@@ -19,12 +21,10 @@ use Rattle.numbers.specs.Numbers.{done, refused, and_then, unless}
 use Rattle.numbers.proofs.Laws.{then_done, passed}
 use Rattle.numbers.specs.declared.Refusal.{Refusal}
 use Rattle.numbers.specs.declared.Refusal.TheVariants.{Field15}
-use Rattle.fields.specs.Fields.{Found, run, two_digits, number, marked, behind, at_most, trailer, Stage, faulty, field}
-use Rattle.fields.specs.Answers.{cursor_at, value_from, mark_from}
+use Rattle.fields.specs.Fields.{Found, run, two_digits, number, marked, behind, at_most, trailer, Stage, read, faulty, fielded, field}
+use Rattle.fields.specs.Answers.{cursor_at, found_at, mark_from, stage_of}
 use Rattle.fields.specs.declared.Cursor.{Cursor}
-use Rattle.fields.specs.declared.Value.{Value}
-use Rattle.fields.specs.declared.Value.TheVariants.{Got, Bad}
-use Rattle.fields.specs.declared.Mark.TheVariants.{Behind, Absent}
+use Rattle.fields.specs.declared.Fault.{Fault}
 
 -- ---- the characters ahead
 
@@ -41,16 +41,6 @@ digits_ahead s at = rw (get_or-drop at s 0 0, get_or-drop at s 1 0, add-zero at)
 -- ---- so many characters of a class
 
 module _ (k : Class) (p q : Refusal) (n : ℕ) (cs : List ℕ) where
-  -- a missing character
-  pub run_short : length cs < n → run k p q n cs ≡ refused p
-  unfolding run
-  run_short h = rw (lt-leb n (length cs) h)
-
-  -- a wrong one
-  pub run_wrong : n ≤ length cs → all_of k (take n cs) ≡ false → run k p q n cs ≡ refused q
-  unfolding run
-  run_wrong h e = rw (le-leb n (length cs) h, e)
-
   -- the field is there
   pub run_whole : n ≤ length cs → all_of k (take n cs) ≡ true → run k p q n cs ≡ done (n, n)
   unfolding run
@@ -78,21 +68,6 @@ run_refuses k p n cs x e = go (leb n (length cs)) (all_of k (take n cs)) e
 -- ---- a number of two digits
 
 module _ (low high : ℕ) (q : Refusal) (cs : List ℕ) where
-  -- no two digits
-  pub number_undigited : (x : Refusal) → run Digit q q 2 cs ≡ refused x → number low high q cs ≡ refused x
-  unfolding number
-  number_undigited x e = rw e
-
-  -- too low
-  pub number_low : (r : ℕ × ℕ) → run Digit q q 2 cs ≡ done r → two_digits 0 cs < low → number low high q cs ≡ refused q
-  unfolding number
-  number_low r e h = rw (e, lt-leb low (two_digits 0 cs) h)
-
-  -- too high
-  pub number_high : (r : ℕ × ℕ) → run Digit q q 2 cs ≡ done r → low ≤ two_digits 0 cs → high < two_digits 0 cs → number low high q cs ≡ refused q
-  unfolding number
-  number_high r e l h = rw (e, le-leb low (two_digits 0 cs) l, lt-leb (two_digits 0 cs) high h)
-
   -- the number is there
   pub number_whole : (r : ℕ × ℕ) → run Digit q q 2 cs ≡ done r → low ≤ two_digits 0 cs → two_digits 0 cs ≤ high → number low high q cs ≡ done (two_digits 0 cs, 2)
   unfolding number
@@ -150,32 +125,37 @@ module _ (m : ℕ) (s : List ℕ) (at : ℕ) where
   pub marked_there : at < length s → get_or s at 0 ≡ m → marked m (drop at s) ≡ true
   marked_there h e = opened h ∙ rw (eq-eqb m (get_or s at 0) (sym e))
 
+-- what decides whether there is one
+pub ruleset marks_found = (unmarked_end, unmarked_other, marked_there)
+
 -- what the code's answer tells of the mark: it is there
-pub mark_there : (at : ℕ) (there : Bool) (c : Cursor) → Behind c ≡ mark_from at there → (there ≡ true) × (c ≡ cursor_at (at + 1))
+pub mark_there : (at : ℕ) (there : Bool) (c : Cursor) → Some c ≡ mark_from at there → (there ≡ true) × (c ≡ cursor_at (at + 1))
 mark_there at true c e = (refl, cc)
 mark_there at false c e = absurd (let z : ◌≡◌ {A = ℕ} 0 1 = cc in omega arith)
 
 -- it is not
-pub mark_absent : (at : ℕ) (there : Bool) → Absent ≡ mark_from at there → there ≡ false
+pub mark_absent : (at : ℕ) (there : Bool) → None ≡ mark_from at there → there ≡ false
 mark_absent at true e = absurd (let z : ◌≡◌ {A = ℕ} 0 1 = cc in omega arith)
 mark_absent at false e = refl
 
 -- ---- behind the code's answer
 
 -- a value was found, so many characters ago
-pub value_of_found : (at : ℕ) (o : Found ℕ) (v : ℕ) (c : Cursor) → Got v c ≡ value_from at o → (n : ℕ) × (o ≡ done (v, n)) × (c ≡ cursor_at (at + n))
-value_of_found at (done (w, n)) v c e = (n, cc, cc)
-value_of_found at (refused q) v c e = absurd (let z : ◌≡◌ {A = ℕ} 0 1 = cc in omega arith)
+pub found_ok : {A : Type 0} (at : ℕ) (o : Found A) (v : A) (c : Cursor) → Ok (v, c) ≡ found_at at o → (n : ℕ) × (o ≡ done (v, n)) × (c ≡ cursor_at (at + n))
+found_ok {A} at (done r) v c e =
+    let p : ◌≡◌ {A = A × Cursor} (v, c) (r.0, cursor_at (at + r.1)) = cc in
+    (r.1, ap (λ (a : A). done (a, r.1)) (sym (ap (λ (x : A × Cursor). x.0) p)), ap (λ (x : A × Cursor). x.1) p)
+found_ok at (refused q) v c e = absurd (let z : ◌≡◌ {A = ℕ} 0 1 = cc in omega arith)
 
 -- none was
-pub value_of_bad : (at : ℕ) (o : Found ℕ) (q : Refusal) → Bad q ≡ value_from at o → o ≡ refused q
-value_of_bad at (done r) q e = absurd (let z : ◌≡◌ {A = ℕ} 0 1 = cc in omega arith)
-value_of_bad at (refused p) q e = cc
+pub found_err : {A : Type 0} (at : ℕ) (o : Found A) (q : Refusal) → Err q ≡ found_at at o → o ≡ refused q
+found_err at (done r) q e = absurd (let z : ◌≡◌ {A = ℕ} 0 1 = cc in omega arith)
+found_err at (refused p) q e = cc
 
 -- what was found behind n characters, as found before them
-pub value_behind : (at n : ℕ) (o : Found ℕ) → value_from (at + n) o ≡ value_from at (behind n o)
-value_behind at n (done r) = ap (λ (i : ℕ). Got r.0 (cursor_at i)) (add_assoc at n r.1)
-value_behind at n (refused q) = refl
+pub found_behind : {A : Type 0} (at n : ℕ) (o : Found A) → found_at (at + n) o ≡ found_at at (behind n o)
+found_behind at n (done r) = ap (λ (i : ℕ). Ok (r.0, cursor_at i)) (add_assoc at n r.1)
+found_behind at n (refused q) = refl
 
 -- ---- fields one after the other
 
@@ -192,34 +172,80 @@ module _ {A B : Type 0} (k at : ℕ) (next : A → ℕ → Stage B) (reader : Li
 
 module _ (s : List ℕ) (at v : ℕ) (c : Cursor) where
   -- so many characters of a class were there
-  pub run_read : (k : Class) (p q : Refusal) (n : ℕ) → Got v c ≡ value_from at (run k p q n (drop at s))
+  pub run_read : (k : Class) (p q : Refusal) (n : ℕ) → Ok (v, c) ≡ found_at at (run k p q n (drop at s))
       → (v ≡ n) × (c ≡ cursor_at (at + n)) × (n ≤ length s - at) × (all_of k (take n (drop at s)) ≡ true)
   run_read k p q n e =
-      let got = value_of_found at (run k p q n (drop at s)) v c e in
+      let got = found_ok at (run k p q n (drop at s)) v c e in
       let f = run_found k p q n (drop at s) v got.0 got.1 in
       (f.0, got.2 ∙ ap (λ (m : ℕ). cursor_at (at + m)) f.1, rw length-drop at f.2, f.3)
 
   -- a number of two digits was there
-  pub number_read : (low high : ℕ) (q : Refusal) → Got v c ≡ value_from at (number low high q (drop at s))
+  pub number_read : (low high : ℕ) (q : Refusal) → Ok (v, c) ≡ found_at at (number low high q (drop at s))
       → (v ≡ two_digits 0 (drop at s)) × (c ≡ cursor_at (at + 2)) × (2 ≤ length s - at) × (low ≤ v) × (v ≤ high)
   number_read low high q e =
-      let got = value_of_found at (number low high q (drop at s)) v c e in
+      let got = found_ok at (number low high q (drop at s)) v c e in
       let f = number_found low high q (drop at s) v got.0 got.1 in
       (f.4, got.2 ∙ ap (λ (m : ℕ). cursor_at (at + m)) f.0, rw length-drop at f.1, f.2, f.3)
+
+-- what a number of two digits goes by
+pub ruleset numbers_found = (run_read, digits_ahead, run_refuses, found_err)
 
 -- ---- the trailer
 
 -- without its mark it is empty
-pub trailer_absent : (s : List ℕ) (at : ℕ) → Absent ≡ mark_from at (marked 0x19 (drop at s)) → Got 0 (cursor_at at) ≡ value_from at (trailer (drop at s))
+pub trailer_absent : (s : List ℕ) (at : ℕ) → None ≡ mark_from at (marked 0x19 (drop at s)) → Ok (0, cursor_at at) ≡ found_at at (trailer (drop at s))
 unfolding trailer
 trailer_absent s at e = rw (mark_absent at (marked 0x19 (drop at s)) e, add-zero at)
 
 -- behind its mark it is a run of what is ahead, but of 32 at most
-pub trailer_there : (s : List ℕ) (at : ℕ) (text : Cursor) (n : ℕ) (o : Value) → Behind text ≡ mark_from at (marked 0x19 (drop at s)) → n ≡ at_most 32 (length s - text.at)
-    → o ≡ value_from text.at (run Printable Field15 Field15 n (drop text.at s)) → o ≡ value_from at (trailer (drop at s))
+pub trailer_there : (s : List ℕ) (at : ℕ) (text : Cursor) (n : ℕ) (o : Result (ℕ × Cursor) Refusal) → Some text ≡ mark_from at (marked 0x19 (drop at s)) → n ≡ at_most 32 (length s - text.at)
+    → o ≡ found_at text.at (run Printable Field15 Field15 n (drop text.at s)) → o ≡ found_at at (trailer (drop at s))
 unfolding trailer
 trailer_there s at text n o e h a =
     let there = mark_there at (marked 0x19 (drop at s)) text e in
     let m : n ≡ at_most 32 (length s - (at + 1)) = h ∙ rw there.1 in
-    let b : o ≡ value_from (at + 1) (run Printable Field15 Field15 n (drop (at + 1) s)) = a ∙ rw there.1 in
-    b ∙ rw (there.0, drop-drop 1 at s, length-drop (at + 1) s, m) (value_behind at 1 (run Printable Field15 Field15 (at_most 32 (length s - (at + 1))) (drop (at + 1) s)))
+    let b : o ≡ found_at (at + 1) (run Printable Field15 Field15 n (drop (at + 1) s)) = a ∙ rw there.1 in
+    b ∙ rw (there.0, drop-drop 1 at s, length-drop (at + 1) s, m) (found_behind at 1 (run Printable Field15 Field15 (at_most 32 (length s - (at + 1))) (drop (at + 1) s)))
+
+-- ---- behind the answer of a stage
+
+-- what was read, and where the next stage begins; or the fault
+pub stage_ok : {A : Type 0} (o : Stage A) (v : A) (c : Cursor) → Ok (v, c) ≡ stage_of o → o ≡ read v c.at
+stage_ok {A} (read a at) v c e =
+    let p : ◌≡◌ {A = A × Cursor} (v, c) (a, cursor_at at) = cc in
+    sym (ap (λ (x : A × Cursor). read x.0 x.1.at) p)
+stage_ok (faulty f) v c e = absurd (let z : ◌≡◌ {A = ℕ} 0 1 = cc in omega arith)
+
+pub stage_err : {A : Type 0} (o : Stage A) (f : Fault) → Err f ≡ stage_of o → o ≡ faulty f
+stage_err (read a at) f e = absurd (let z : ◌≡◌ {A = ℕ} 0 1 = cc in omega arith)
+stage_err (faulty g) f e = cc
+
+-- a stage of one field: its reader's value and the cursor behind it, or the reader's refusal at the field and its place
+pub field_pointed : {A : Type 0} (k at : ℕ) (reader : List ℕ → Found A) (s : List ℕ) (r : Result (A × Cursor) Refusal) (p : Result (A × Cursor) Fault)
+    → r ≡ found_at at (reader (drop at s)) → MatchResult r (λ x. p ≡ Ok x) (λ e. IsErrAnd p (λ f. f ≡ record { refusal = e; field = k; place = at }))
+    → p ≡ stage_of (field k reader s at (λ a next. read a next))
+field_pointed {A} k at reader s r p e m = go (reader (drop at s)) (subst (λ x. MatchResult x (λ x. p ≡ Ok x) (λ e. IsErrAnd p (λ f. f ≡ record { refusal = e; field = k; place = at }))) e m)
+  where
+    go : (o : Found A) → MatchResult (found_at at o) (λ x. p ≡ Ok x) (λ e. IsErrAnd p (λ f. f ≡ record { refusal = e; field = k; place = at })) → p ≡ stage_of (fielded k at o (λ a next. read a next))
+    go (done a) m = m
+    go (refused q) m = let w = err_from_is_err_and p m in rw (w.1, w.2)
+
+-- where other fields come behind it, they begin at the cursor
+pub field_passed : {A B : Type 0} (k at : ℕ) (next : A → ℕ → Stage B) (reader : List ℕ → Found A) (s : List ℕ) (r : Result (A × Cursor) Refusal) (p : Result (A × Cursor) Fault) (a : A) (c : Cursor)
+    → r ≡ found_at at (reader (drop at s)) → MatchResult r (λ x. p ≡ Ok x) (λ e. IsErrAnd p (λ f. f ≡ record { refusal = e; field = k; place = at }))
+    → p ≡ Ok (a, c) → field k reader s at next ≡ next a c.at
+field_passed {A} k at next reader s r p a c e m h = go (reader (drop at s)) (subst (λ x. MatchResult x (λ x. p ≡ Ok x) (λ e. IsErrAnd p (λ f. f ≡ record { refusal = e; field = k; place = at }))) e m)
+  where
+    go : (o : Found A) → MatchResult (found_at at o) (λ x. p ≡ Ok x) (λ e. IsErrAnd p (λ f. f ≡ record { refusal = e; field = k; place = at })) → fielded k at o next ≡ next a c.at
+    go (done b) m = let g : ◌≡◌ {A = A × Cursor} (b.0, cursor_at (at + b.1)) (a, c) = cc in ap (λ (x : A × Cursor). next x.0 x.1.at) g
+    go (refused q) m = let w = err_from_is_err_and p m in absurd (let z : ◌≡◌ {A = ℕ} 0 1 = cc in omega arith)
+
+-- or its refusal at the field and its place is the fault
+pub field_refused : {A B : Type 0} (k at : ℕ) (next : A → ℕ → Stage B) (reader : List ℕ → Found A) (s : List ℕ) (r : Result (A × Cursor) Refusal) (p : Result (A × Cursor) Fault) (f : Fault)
+    → r ≡ found_at at (reader (drop at s)) → MatchResult r (λ x. p ≡ Ok x) (λ e. IsErrAnd p (λ f. f ≡ record { refusal = e; field = k; place = at }))
+    → p ≡ Err f → field k reader s at next ≡ faulty f
+field_refused {A} k at next reader s r p f e m h = go (reader (drop at s)) (subst (λ x. MatchResult x (λ x. p ≡ Ok x) (λ e. IsErrAnd p (λ f. f ≡ record { refusal = e; field = k; place = at }))) e m)
+  where
+    go : (o : Found A) → MatchResult (found_at at o) (λ x. p ≡ Ok x) (λ e. IsErrAnd p (λ f. f ≡ record { refusal = e; field = k; place = at })) → fielded k at o next ≡ faulty f
+    go (done a) m = absurd (let z : ◌≡◌ {A = ℕ} 0 1 = cc in omega arith)
+    go (refused q) m = let w = err_from_is_err_and p m in let g : f ≡ w.0 = cc in rw (g, w.2)

@@ -4,7 +4,7 @@
 ghost use Rattle.std.specs.Prelude.{◌≡◌, ◌+◌, ◌-◌, ◌*◌, ◌≤◌, length, take, drop};
 ghost use Rattle.alphabet.specs.Alphabet.{all_of, value_of};
 ghost use Rattle.fields.specs.Fields.{run, number, marked, trailer, pointer_of};
-ghost use Rattle.fields.specs.Answers.{value_from, refusal_in, mark_from, no_fault};
+ghost use Rattle.fields.specs.Answers.{found_at, mark_from};
 
 use alphabet::Class;
 use numbers::Refusal;
@@ -13,24 +13,10 @@ const TRAILER_MARK: u8 = 0x19;
 
 const LONGEST_TRAILER: usize = 32;
 
-// Where the next field begins.
+// Where the next field begins. The command does not travel with it: positions do, contents do not, and each reader is lent the command.
 #[derive(Clone, Copy)]
 pub struct Cursor {
     pub at: usize,
-}
-
-// A field's value and the cursor behind it, or why there is none.
-#[derive(Clone, Copy)]
-pub enum Value {
-    Got(usize, Cursor),
-    Bad(Refusal),
-}
-
-// The cursor behind a mark, where the mark is.
-#[derive(Clone, Copy)]
-pub enum Mark {
-    Behind(Cursor),
-    Absent,
 }
 
 // Why a command is refused: the refusal, the number of its field and the place where that field begins.
@@ -63,18 +49,6 @@ impl Fault {
     }
 }
 
-impl Value {
-    // Why there is no value; asked only where there is none.
-    pub fn refusal(self) -> Refusal
-        ensures { result ≡ refusal_in self }
-    {
-        match self {
-            Value::Got(_, _) => Refusal::Field15,
-            Value::Bad(q) => q,
-        }
-    }
-}
-
 // The fault of a field that begins at the cursor.
 pub fn fault_at(refusal: Refusal, field: usize, cursor: Cursor) -> Fault
     ensures { result ≡ record { refusal = refusal; field = field; place = cursor.at } }
@@ -86,21 +60,17 @@ pub fn fault_at(refusal: Refusal, field: usize, cursor: Cursor) -> Fault
     }
 }
 
-// The fault of what is not a field's, and is pointed at nothing.
-pub fn unpointed(refusal: Refusal) -> Fault
-    ensures { result ≡ record { refusal = refusal; field = 0; place = 0 } }
-{
-    fault_at(refusal, 0, Cursor { at: 0 })
-}
+// What is not a field's is pointed at nothing.
+impl From<Refusal> for Fault {
+    ghost from_gives = { λ q f. f ≡ record { refusal = q; field = 0; place = 0 } };
 
-// The fault that is given where one is asked for and there is none.
-pub fn no_fault() -> Fault
-    ensures { result ≡ no_fault }
-{
-    unpointed(Refusal::Field15)
+    fn from(refusal: Refusal) -> Fault {
+        fault_at(refusal, 0, Cursor { at: 0 })
+    }
 }
 
 // Whether the n characters from a place on are of a class.
+#[tactic(auto, using(crate::proofs::Laws::slice_ahead), unfolding(alphabet::specs::Alphabet::all_of))]
 fn all_ahead(class: Class, command: &[u8], from: usize, n: usize) -> bool
     requires { n ≤ length command.now - from }
     ensures { result ≡ all_of class (take n (drop from command.now)) }
@@ -122,14 +92,12 @@ pub fn two_digits(tens: u8, ones: u8) -> usize
 fn at_most(high: usize, n: usize) -> usize
     ensures { result ≡ Rattle.fields.specs.Fields.at_most high n }
 {
-    if high < n {
-        return high;
-    }
-    n
+    high.min(n)
 }
 
 impl Cursor {
     // "Inside a field a missing character is judged before a wrong one": each has its own number, which the field gives.
+    #[tactic(auto, unfolding(crate::specs::Fields::run))]
     pub fn run(
         self,
         command: &[u8],
@@ -137,59 +105,64 @@ impl Cursor {
         class: Class,
         missing: Refusal,
         wrong: Refusal,
-    ) -> Value
-        ensures { result ≡ value_from self.at (run class missing wrong n (drop self.at command.now)) }
+    ) -> Result<(usize, Cursor), Refusal>
+        ensures { result ≡ found_at self.at (run class missing wrong n (drop self.at command.now)) }
     {
         let from = self.at;
         if alphabet::ahead(command, from) < n {
-            return Value::Bad(missing);
+            return Err(missing);
         }
         if !all_ahead(class, command, from, n) {
-            return Value::Bad(wrong);
+            return Err(wrong);
         }
-        Value::Got(n, Cursor { at: from + n })
+        Ok((n, Cursor { at: from + n }))
     }
 
     // A number of two digits, from low to high.
-    pub fn number(self, command: &[u8], low: usize, high: usize, wrong: Refusal) -> Value
-        ensures { result ≡ value_from self.at (number low high wrong (drop self.at command.now)) }
+    #[tactic(auto, using(crate::proofs::Laws::numbers_found), unfolding(crate::specs::Fields::number))]
+    pub fn number(
+        self,
+        command: &[u8],
+        low: usize,
+        high: usize,
+        wrong: Refusal,
+    ) -> Result<(usize, Cursor), Refusal>
+        ensures { result ≡ found_at self.at (number low high wrong (drop self.at command.now)) }
     {
-        let digits = self.run(command, 2, Class::Digit, wrong, wrong);
-        let Value::Got(_, next) = digits else {
-            return Value::Bad(wrong);
-        };
+        let (_, next) = self.run(command, 2, Class::Digit, wrong, wrong)?;
         let at = self.at;
         let n = two_digits(command[at], command[at + 1]);
         if n < low {
-            return Value::Bad(wrong);
+            return Err(wrong);
         }
         if high < n {
-            return Value::Bad(wrong);
+            return Err(wrong);
         }
-        Value::Got(n, next)
+        Ok((n, next))
     }
 
     // The mark of an optional field.
-    pub fn mark(self, command: &[u8], mark: u8) -> Mark
+    #[tactic(auto, using(crate::proofs::Laws::marks_found))]
+    pub fn mark(self, command: &[u8], mark: u8) -> Option<Cursor>
         ensures { result ≡ mark_from self.at (marked mark (drop self.at command.now)) }
     {
         let at = self.at;
         if command.len() <= at {
-            return Mark::Absent;
+            return None;
         }
         if command[at] != mark {
-            return Mark::Absent;
+            return None;
         }
-        Mark::Behind(Cursor { at: at + 1 })
+        Some(Cursor { at: at + 1 })
     }
 
     // The optional trailer: at most 32 printable characters behind its mark.
-    pub fn trailer(self, command: &[u8]) -> Value
-        ensures { result ≡ value_from self.at (trailer (drop self.at command.now)) }
+    #[tactic(auto, using(crate::proofs::Laws::trailer_absent))]
+    pub fn trailer(self, command: &[u8]) -> Result<(usize, Cursor), Refusal>
+        ensures { result ≡ found_at self.at (trailer (drop self.at command.now)) }
     {
-        let marked = self.mark(command, TRAILER_MARK);
-        let Mark::Behind(text) = marked else {
-            return Value::Got(0, self);
+        let Some(text) = self.mark(command, TRAILER_MARK) else {
+            return Ok((0, self));
         };
         let left = alphabet::ahead(command, text.at);
         text.run(

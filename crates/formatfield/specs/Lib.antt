@@ -1,2 +1,1 @@
 pub mod FormatField
-pub mod Answers

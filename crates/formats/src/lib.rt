@@ -14,7 +14,8 @@ pub enum Format {
     F47,
 }
 
-// What leads the digits: nothing, or C and the PIN's length.
+// What leads the digits: nothing, or C and the PIN's length. It is no Option: these are two ways to write a block, and `Some(2)` would not
+// say that a length follows.
 #[derive(Clone, Copy)]
 pub enum Lead {
     Bare,

@@ -9,7 +9,7 @@ use lib.ListN.{length, get_or, length-map, length-drop}
 use lib.Seq.{get_or-drop}
 use lib.Dec.{lit<}
 use lib.IntN.{ℤ, pos, negsuc}
-use Rattle.nibbles.specs.Nibbles.{row, within}
+use Rattle.nibbles.specs.Nibbles.{row}
 use Rattle.nibbles.proofs.Lists.{Below, below_at}
 use Rattle.nibbles.proofs.Rows.{row_length, row_at_less}
 use Rattle.nibbles.proofs.Runs.{every_below}

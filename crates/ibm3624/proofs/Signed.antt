@@ -1,16 +1,16 @@
 -- Differences of two digits: each fact is a test that is computed at the hundred pairs once.
 -- Assumes nothing.
-use Prim.Native.Nat.{ℕ, zero, suc, ◌+◌, ◌^◌, ◌≤◌, ◌<◌}
+use Prim.Native.Nat.{ℕ, zero, suc, ◌^◌, ◌≤◌, ◌<◌}
 use native.Mathlib.Omega.{arith}
 use native.Mathlib.Nat.{not-suc-le-zero}
 use mathlib.Core.Path.{◌≡◌, refl, sym, ap, ◌∙◌, subst}
 use mathlib.Core.Bool.{Bool, true, false, ◌&&◌, cond}
-use lib.Dec.{T, ltb, leb, eqb}
+use lib.Dec.{T, ltb, eqb}
 use lib.IntN.{ℤ, pos, ◌+ℤ◌, nat_abs}
 use lib.Signed.{mag, lt_z, non_neg}
 use mir.Syntax.{w8, w32, w64}
 use mir.Val.{SFits, Fits, hbits}
-use borrow.Author.Tests.{eqb-true, eqb-false, ltb-true, leb-true}
+use borrow.Author.Tests.{eqb-true, eqb-false, ltb-true}
 use Rattle.nibbles.proofs.Lists.{and_left, and_right}
 use Rattle.ibm3624.specs.Ibm3624.{difference, modulo_ten}
 
@@ -62,6 +62,3 @@ module _ (p q : ℕ) (h : p ≤ 9) (k : q ≤ 9) where
 
   pub difference_small : SFits w8 (difference p q)
   difference_small = record { sfits = ltb-true _ _ (at_pair (λ z. ltb (mag z) (2 ^ hbits w8)) refl p q h k) }
-
-  pub reduced_digit : modulo_ten (difference p q) ≤ 9
-  reduced_digit = leb-true _ _ (at_pair (λ z. leb (modulo_ten z) 9) refl p q h k)

@@ -8,7 +8,6 @@ ghost use Rattle.ibm3624.specs.Ibm3624.{covers, difference, modulo_ten, covered,
 ghost use Rattle.ibm3624.specs.Answers.{Matched};
 
 use numbers::Refusal;
-use pins::Count;
 
 // PIN digit less natural digit.
 fn less(pin: u64, natural: u64) -> i32
@@ -28,16 +27,16 @@ fn reduced(pin: u64, natural: u64) -> u64
 }
 
 // How many digits an offset covers.
-pub fn covering(variable: bool, check: usize, n: usize) -> Count
+pub fn covering(variable: bool, check: usize, n: usize) -> Result<usize, Refusal>
     ensures { result ≡ count_of (covers variable check n) }
 {
     if variable {
-        return Count::Of(n);
+        return Ok(n);
     }
     if n < check {
-        return Count::Bad(Refusal::Check81);
+        return Err(Refusal::Check81);
     }
-    Count::Of(check)
+    Ok(check)
 }
 
 // The offset over the last m of n digits, as a row.
@@ -47,9 +46,7 @@ pub fn offset(m: usize, n: usize, pin: u64, natural: u64) -> u64
 {
     let skipped = n - m;
     let mut w: u64 = 0;
-    let mut i = m;
-    while 0 < i {
-        i -= 1;
+    for i in (0..m).rev() {
         w = w * 16
             + reduced(
                 nibbles::nibble(pin, skipped + i),
@@ -65,12 +62,10 @@ pub fn put_differences(m: usize, n: usize, pin: u64, natural: u64, out: &mut [i8
     ensures { out.new ≡ covered m (row n pin) (row n natural) ++ drop m out.old }
 {
     let uncovered = n - m;
-    let mut i = 0;
-    while i < m {
-        out[i] = less(
+    for (i, d) in out[..m].iter_mut().enumerate() {
+        *d = less(
             nibbles::nibble(pin, uncovered + i),
             nibbles::nibble(natural, uncovered + i),
         ) as i8;
-        i += 1;
     }
 }

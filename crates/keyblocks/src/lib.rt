@@ -2,40 +2,30 @@
 #![tactic(auto)]
 
 ghost use Rattle.std.specs.Prelude.{◌≡◌, drop};
-ghost use Rattle.lmk.specs.Answers.{keyed_from};
+ghost use Rattle.fields.specs.Answers.{found_at};
 ghost use Rattle.keyblocks.specs.KeyBlocks.{key_block};
 
 use alphabet::Class;
-use fields::{Cursor, Value};
-use lmk::{Keyed, Lmk};
+use fields::Cursor;
 use numbers::Refusal;
 use uses::Use;
 
 // A key block, from its version byte.
-pub fn key_block(cursor: Cursor, command: &[u8], permitted: Use) -> Keyed
-    ensures { result ≡ keyed_from cursor.at (key_block permitted (drop cursor.at command.now)) }
+#[tactic(auto, using(crate::proofs::Laws::block_parts), unfolding(crate::specs::KeyBlocks::key_block))]
+pub fn key_block(
+    cursor: Cursor,
+    command: &[u8],
+    permitted: Use,
+) -> Result<(Option<usize>, Cursor), Refusal>
+    ensures { result ≡ found_at cursor.at (key_block permitted (drop cursor.at command.now)) }
 {
     let at = cursor.at;
-    let measured = keylengths::block_length(cursor, command);
-    let Value::Got(length, rest) = measured else {
-        return Keyed::Bad(measured.refusal());
-    };
-    let text = rest.run(
-        command,
-        length - 5,
-        Class::Printable,
-        Refusal::Field15,
-        Refusal::Field15,
-    );
-    let Value::Got(_, next) = text else {
-        return Keyed::Bad(Refusal::Field15);
-    };
+    let missing = Refusal::Field15;
+    let (length, rest) = keylengths::block_length(cursor, command)?;
+    let (_, next) = rest.run(command, length - 5, Class::Printable, missing, missing)?;
     if !permitted.permits(command, at) {
-        return Keyed::Bad(Refusal::Use29);
+        return Err(Refusal::Use29);
     }
-    let named = Cursor { at: at + 14 }.number(command, 0, 9, Refusal::Field15);
-    let Value::Got(id, _) = named else {
-        return Keyed::Bad(Refusal::Field15);
-    };
-    Keyed::Got(Lmk::Id(id), next)
+    let (id, _) = Cursor { at: at + 14 }.number(command, 0, 9, missing)?;
+    Ok((Some(id), next))
 }

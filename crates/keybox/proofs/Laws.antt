@@ -5,26 +5,24 @@ use native.Mathlib.Omega.{arith}
 use mathlib.Core.Path.{◌≡◌, refl, sym, ap, ap₂, ◌∙◌}
 use mathlib.Core.List.{List}
 use mathlib.Core.Bool.{Bool, true, false}
+use Rattle.std.specs.Prelude.{Result, Ok, Err, MatchResult, IsErrAnd, IfOk}
+use Rattle.std.proofs.lemmas.Result.{err_from_is_err_and, IfOk-at_ok}
 use lib.ListN.{length}
-use lib.Dec.{eqb}
-use Rattle.nibbles.specs.Nibbles.{row, nibs}
 use Rattle.nibbles.proofs.Lists.{Below}
 use Rattle.nibbles.proofs.Bytes.{nibs_length}
-use Rattle.numbers.specs.Numbers.{Outcome, done, refused, and_then, unless}
+use Rattle.numbers.specs.Numbers.{Outcome, done, refused, and_then}
 use Rattle.numbers.specs.declared.Refusal.{Refusal}
-use Rattle.numbers.specs.declared.Refusal.TheVariants.{Field15}
-use Rattle.numbers.proofs.Laws.{then_done, value_of_lem}
+use Rattle.numbers.proofs.Laws.{then_done, value_of_lem, result_ok, result_err}
+use Rattle.nibbles.specs.Nibbles.{word}
 use Rattle.pins.specs.Pins.{sized}
-use Rattle.pins.proofs.Laws.{sized_done}
+use Rattle.pins.specs.Answers.{row_of}
+use Rattle.pins.proofs.Laws.{sized_done, block_row}
 use Rattle.answers.proofs.Laws.{bytes_sixteen, sixteen_word}
 use Rattle.fields.specs.Fields.{Ruling, pointing, unpointed, heard}
 use Rattle.fields.specs.declared.Fault.{Fault}
 use Rattle.keybox.specs.KeyBox.{slices, parities, boxed}
-use Rattle.keybox.specs.Answers.{words_of, sliced_of, parity_of, box_read}
+use Rattle.keybox.specs.Answers.{words_of, rows_held, sliced_of, parity_of, box_read}
 use Rattle.keybox.specs.declared.Boxed.{Boxed}
-use Rattle.keybox.specs.declared.Sliced.TheVariants as sliced
-use Rattle.keybox.specs.declared.Parity.TheVariants as parity
-use Rattle.keybox.specs.declared.BoxRead.TheVariants.{Got, Bad}
 
 -- ---- what the key box answered
 
@@ -68,71 +66,59 @@ boxed_heard end g h block enciphered = by_both (slices block enciphered) (pariti
     by_both (done rows) (refused q) = refl
     by_both (refused q) p = refl
 
--- ---- behind the code's answers
+-- ---- behind an answer that `map_err` points
 
-pub sliced_rows : (o : Outcome (List ℕ × List ℕ)) (b : Boxed) → sliced.Rows b ≡ sliced_of o → (rows : List ℕ × List ℕ) × (o ≡ done rows) × (b ≡ words_of rows)
-sliced_rows (done rows) b e = (rows, refl, cc)
-sliced_rows (refused q) b e = absurd (let z : ◌≡◌ {A = ℕ} 0 1 = cc in omega arith)
+-- the refusal behind its fault
+pub pointed_err : {A : Type 0} (r : Result A Refusal) (p : Result A Fault) (k at : ℕ) (f : Fault)
+    → MatchResult r (λ x. p ≡ Ok x) (λ e. IsErrAnd p (λ f. f ≡ record { refusal = e; field = k; place = at })) → p ≡ Err f
+    → (q : Refusal) × (r ≡ Err q) × (f ≡ record { refusal = q; field = k; place = at })
+pointed_err (Ok x) p k at f m e = absurd (let z : ◌≡◌ {A = ℕ} 0 1 = cc in omega arith)
+pointed_err (Err q) p k at f m e = let w = err_from_is_err_and p m in (q, refl, (let z : f ≡ w.0 = cc in z) ∙ w.2)
 
--- slices have no other fault than their length
-pub sliced_short : (block enciphered : List ℕ) → sliced.Short ≡ sliced_of (slices block enciphered) → slices block enciphered ≡ refused Field15
-unfolding slices
-sliced_short block enciphered e = by_tests (eqb (length block) 8) (eqb (length enciphered) 8) e
-  where
-    both : Bool → Bool → Outcome (List ℕ × List ℕ)
-    both b c = and_then (unless Field15 b (nibs block)) (λ ns. and_then (unless Field15 c (nibs enciphered)) (λ es. done (ns, es)))
-
-    by_tests : (b c : Bool) → sliced.Short ≡ sliced_of (both b c) → both b c ≡ refused Field15
-    by_tests true true d = absurd (let z : ◌≡◌ {A = ℕ} 0 1 = cc in omega arith)
-    by_tests true false d = refl
-    by_tests false c d = refl
-
-pub parity_good : (o : Outcome (Unit {0})) → parity.Good ≡ parity_of o → o ≡ done tt
-parity_good (done u) e = refl
-parity_good (refused q) e = absurd (let z : ◌≡◌ {A = ℕ} 0 1 = cc in omega arith)
-
-pub parity_bad : (o : Outcome (Unit {0})) (q : Refusal) → parity.Bad q ≡ parity_of o → o ≡ refused q
-parity_bad (done u) q e = absurd (let z : ◌≡◌ {A = ℕ} 0 1 = cc in omega arith)
-parity_bad (refused r) q e = cc
+-- its value
+pub pointed_ok : {A : Type 0} (r : Result A Refusal) (p : Result A Fault) (k at : ℕ) (x : A)
+    → MatchResult r (λ x. p ≡ Ok x) (λ e. IsErrAnd p (λ f. f ≡ record { refusal = e; field = k; place = at })) → p ≡ Ok x → r ≡ Ok x
+pointed_ok (Ok y) p k at x m e = let z : y ≡ x = cc in ap Ok z
+pointed_ok (Err q) p k at x m e = let w = err_from_is_err_and p m in absurd (let z : ◌≡◌ {A = ℕ} 0 1 = cc in omega arith)
 
 -- ---- the one, then the other
 
 module _ (end : ℕ) (g h : Bool) (block enciphered : List ℕ) where
   -- a slice has another length
-  pub box_short : sliced.Short ≡ sliced_of (slices block enciphered) → boxed end g h block enciphered ≡ refused (record { refusal = Field15; field = 0; place = end })
+  pub box_short : (q : Refusal) → Err q ≡ sliced_of (slices block enciphered) → boxed end g h block enciphered ≡ refused (record { refusal = q; field = 0; place = end })
   unfolding boxed
-  box_short e = rw (sliced_short block enciphered e)
+  box_short q e = rw (result_err words_of (slices block enciphered) q e)
 
-  module _ (b : Boxed) (held : sliced.Rows b ≡ sliced_of (slices block enciphered)) where
+  module _ (b : Boxed) (held : Ok b ≡ sliced_of (slices block enciphered)) where
     -- a parity is wrong
-    pub box_parity : (q : Refusal) → parity.Bad q ≡ parity_of (parities g h) → boxed end g h block enciphered ≡ refused (record { refusal = q; field = 0; place = 0 })
+    pub box_parity : (q : Refusal) → Err q ≡ parity_of (parities g h) → boxed end g h block enciphered ≡ refused (record { refusal = q; field = 0; place = 0 })
     unfolding boxed
-    box_parity q e = rw ((sliced_rows (slices block enciphered) b held).1, parity_bad (parities g h) q e)
+    box_parity q e = rw ((result_ok words_of (slices block enciphered) b held).1, result_err (λ (u : Unit {0}). u) (parities g h) q e)
 
     -- nothing is
-    pub box_good : parity.Good ≡ parity_of (parities g h) → Got b ≡ box_read (boxed end g h block enciphered)
+    pub box_good : (u : Unit {0}) → Ok u ≡ parity_of (parities g h) → Ok b ≡ box_read (boxed end g h block enciphered)
     unfolding boxed
-    box_good e = let r = sliced_rows (slices block enciphered) b held in rw (r.1, parity_good (parities g h) e) (ap Got r.2)
+    box_good u e =
+        let r = result_ok words_of (slices block enciphered) b held in
+        rw (r.1, (result_ok (λ (u : Unit {0}). u) (parities g h) u e).1) (ap Ok r.2)
 
-module _ (end : ℕ) (g h : Bool) (block enciphered : List ℕ) (small : Below 256 block) (little : Below 256 enciphered) where
-  -- the words of the rows that were answered hold them
-  box_back : (rows : List ℕ × List ℕ) → boxed end g h block enciphered ≡ done rows → (row 16 (words_of rows).block, row 16 (words_of rows).enciphered) ≡ rows
-  box_back rows e =
-      let s = slices_done block enciphered rows (boxed_done end g h block enciphered rows e).0 in
-      ap₂ (λ (ns es : List ℕ). (ns, es)) (sixteen_word rows.0 (bytes_sixteen block rows.0 small s.0)) (sixteen_word rows.1 (bytes_sixteen enciphered rows.1 little s.1))
+-- ---- the rows that the code's words hold
 
-  -- and the code holds those words
-  pub box_found : (b : Boxed) → Got b ≡ box_read (boxed end g h block enciphered) → boxed end g h block enciphered ≡ done (row 16 b.block, row 16 b.enciphered)
-  box_found b e = go (boxed end g h block enciphered) e box_back
-    where
-      go :
-          (o : Ruling (List ℕ × List ℕ)) → Got b ≡ box_read o → ((rows : List ℕ × List ℕ) → o ≡ done rows → (row 16 (words_of rows).block, row 16 (words_of rows).enciphered) ≡ rows)
-          → o ≡ done (row 16 b.block, row 16 b.enciphered)
-      go (done rows) d back =
-          let q : words_of rows ≡ b = cc in
-          ap done (sym (back rows refl)) ∙ ap (λ (x : Boxed). done (row 16 x.block, row 16 x.enciphered)) q
-      go (refused f) d back = absurd (let z : ◌≡◌ {A = ℕ} 0 1 = cc in omega arith)
+-- of the slices
+pub slices_held : (block enciphered : List ℕ) → Below 256 block → Below 256 enciphered → (clear cipher : ℕ) → Ok clear ≡ row_of (sized 8 block) → Ok cipher ≡ row_of (sized 8 enciphered)
+    → slices block enciphered ≡ done (rows_held (record { block = clear; enciphered = cipher }))
+unfolding slices
+slices_held block enciphered small little clear cipher e f =
+    let r = result_ok word (sized 8 block) clear e in
+    let s = result_ok word (sized 8 enciphered) cipher f in
+    rw (r.1, s.1, block_row block r.0 clear r.1 small r.2, block_row enciphered s.0 cipher s.1 little s.2)
 
-pub box_bad : (o : Ruling (List ℕ × List ℕ)) (f : Fault) → Bad f ≡ box_read o → o ≡ refused f
-box_bad (done rows) f e = absurd (let z : ◌≡◌ {A = ℕ} 0 1 = cc in omega arith)
-box_bad (refused g) f e = cc
+-- and of what the key box answered
+pub box_held : (end : ℕ) (g h : Bool) (block enciphered : List ℕ) (r : Result Boxed Refusal) (b : Boxed) (u : Unit {0}) → r ≡ Ok b
+    → IfOk r (λ rows. slices block enciphered ≡ done (rows_held rows)) → Ok u ≡ parity_of (parities g h) → boxed end g h block enciphered ≡ done (rows_held b)
+unfolding boxed
+box_held end g h block enciphered r b u e held f =
+    rw (IfOk-at_ok (λ rows. slices block enciphered ≡ done (rows_held rows)) e held, (result_ok (λ (u : Unit {0}). u) (parities g h) u f).1)
+
+-- what judging the answers takes
+pub ruleset answers_judged = (pointed_err, pointed_ok, box_short, box_parity, box_good)

@@ -1,101 +1,70 @@
 // What the key box answered, judged.
 #![tactic(auto)]
 
-ghost use Rattle.std.specs.Prelude.{◌≡◌};
+ghost use Rattle.std.specs.Prelude.{◌≡◌, IfOk};
+ghost use Rattle.numbers.specs.Numbers.{done};
 ghost use Rattle.keybox.specs.KeyBox.{slices, parities, boxed};
-ghost use Rattle.keybox.specs.Answers.{sliced_of, parity_of, box_read, box_fault};
+ghost use Rattle.keybox.specs.Answers.{rows_held, sliced_of, parity_of, box_read};
 
 use fields::{Cursor, Fault};
 use numbers::Refusal;
-use pins::Row;
 
-// The rows that the key box answered: the deciphered PIN block and the enciphered validation block.
+// What the key box answered: whether the parities of PIN key and PVK are good, and the two slices, the deciphered PIN block and the
+// enciphered validation block.
+#[derive(Clone, Copy)]
+pub struct BoxAnswers<'a> {
+    pub pinparity: bool,
+    pub pvkparity: bool,
+    pub block: &'a [u8],
+    pub enciphered: &'a [u8],
+}
+
+// The two slices as rows.
 #[derive(Clone, Copy)]
 pub struct Boxed {
     pub block: u64,
     pub enciphered: u64,
 }
 
-// The two slices' rows, where each has eight bytes.
-#[derive(Clone, Copy)]
-pub enum Sliced {
-    Rows(Boxed),
-    Short,
-}
-
-// Both parities are good, or which is not.
-#[derive(Clone, Copy)]
-pub enum Parity {
-    Good,
-    Bad(Refusal),
-}
-
-#[derive(Clone, Copy)]
-pub enum BoxRead {
-    Got(Boxed),
-    Bad(Fault),
-}
-
-impl BoxRead {
-    // Why there are no rows; asked only where there are none.
-    pub fn fault(self) -> Fault
-        ensures { result ≡ box_fault self }
-    {
-        match self {
-            BoxRead::Got(_) => fields::no_fault(),
-            BoxRead::Bad(fault) => fault,
-        }
-    }
-}
-
-// The two slices as rows.
-fn slices(block: &[u8], enciphered: &[u8]) -> Sliced
-    ensures { result ≡ sliced_of (slices block.now enciphered.now) }
+// The two slices as rows, where each has eight bytes.
+#[tactic(auto, unfolding(crate::specs::KeyBox::slices))]
+fn slices(block: &[u8], enciphered: &[u8]) -> Result<Boxed, Refusal>
+    ensures answered { result ≡ sliced_of (slices block.now enciphered.now) }
+    ensures held { IfOk result (λ rows. slices block.now enciphered.now ≡ done (rows_held rows)) }
 {
-    let sized = pins::sized_row(block, 8);
-    let Row::Held(clear) = sized else {
-        return Sliced::Short;
-    };
-    let validation = pins::sized_row(enciphered, 8);
-    let Row::Held(cipher) = validation else {
-        return Sliced::Short;
-    };
-    Sliced::Rows(Boxed {
+    let clear = pins::sized_row(block, 8)?;
+    let cipher = pins::sized_row(enciphered, 8)?;
+    Ok(Boxed {
         block: clear,
         enciphered: cipher,
     })
 }
 
 // 10, then 11.
-fn parities(pinparity: bool, pvkparity: bool) -> Parity
+#[tactic(auto, unfolding(crate::specs::KeyBox::parities))]
+fn parities(pinparity: bool, pvkparity: bool) -> Result<(), Refusal>
     ensures { result ≡ parity_of (parities pinparity pvkparity) }
 {
     if !pinparity {
-        return Parity::Bad(Refusal::PinKeyParity10);
+        return Err(Refusal::PinKeyParity10);
     }
     if !pvkparity {
-        return Parity::Bad(Refusal::PvkParity11);
+        return Err(Refusal::PvkParity11);
     }
-    Parity::Good
+    Ok(())
 }
 
 // The key box's answers to a command that ends at a place: the slices, then the parities.
-pub fn key_box(
-    end: usize,
-    pinparity: bool,
-    pvkparity: bool,
-    block: &[u8],
-    enciphered: &[u8],
-) -> BoxRead
-    ensures { result ≡ box_read (boxed end pinparity pvkparity block.now enciphered.now) }
+#[tactic(auto, using(crate::proofs::Laws::answers_judged))]
+pub fn key_box(end: usize, answers: BoxAnswers<'_>) -> Result<Boxed, Fault>
+    ensures answered { let a = answers.entry in
+        result ≡ box_read (boxed end a.pinparity a.pvkparity a.block.now a.enciphered.now) }
+    ensures held { let a = answers.entry in
+        IfOk result (λ rows. boxed end a.pinparity a.pvkparity a.block.now a.enciphered.now ≡ done (rows_held rows)) }
 {
-    let sliced = slices(block, enciphered);
-    let Sliced::Rows(rows) = sliced else {
-        return BoxRead::Bad(fields::fault_at(Refusal::Field15, 0, Cursor { at: end }));
-    };
-    let parity = parities(pinparity, pvkparity);
-    match parity {
-        Parity::Good => BoxRead::Got(rows),
-        Parity::Bad(refusal) => BoxRead::Bad(fields::unpointed(refusal)),
-    }
+    let past = Cursor { at: end };
+    let sliced = slices(answers.block, answers.enciphered);
+    let rows = sliced.map_err(|q| fields::fault_at(q, 0, past))?;
+    parities(answers.pinparity, answers.pvkparity)?;
+    Ok(rows)
 }

@@ -1,2 +1,1 @@
 pub mod KeyFields
-pub mod Answers

@@ -1,6 +1,6 @@
 -- What the reader of a key block's version and length answers, and what an answer tells of the characters ahead.
 -- Assumes nothing.
-use Prim.Native.Nat.{ℕ, ◌+◌, ◌*◌, ◌≤◌, ◌<◌}
+use Prim.Native.Nat.{ℕ, ◌+◌, ◌*◌, ◌≤◌}
 use native.Mathlib.Nat.{add-zero}
 use native.Mathlib.Omega.{arith}
 use mathlib.Core.Path.{◌≡◌, sym, ap}
@@ -9,17 +9,16 @@ use mathlib.Core.Bool.{Bool, true, false, ◌&&◌}
 use lib.ListN.{length, get_or, drop}
 use lib.Seq.{get_or-drop}
 use lib.Dec.{leb}
-use borrow.Author.Tests.{le-leb, lt-leb}
+use borrow.Author.Tests.{le-leb}
 use Rattle.nibbles.specs.Nibbles.{within}
 use Rattle.nibbles.proofs.Runs.{inside, inside_low, inside_high}
 use Rattle.alphabet.specs.Alphabet.{value_of}
 use Rattle.alphabet.specs.declared.Class.TheVariants.{Digit}
-use Rattle.numbers.specs.Numbers.{done, refused, unless}
+use Rattle.numbers.specs.Numbers.{done, unless}
 use Rattle.numbers.proofs.Laws.{then_done, passed}
-use Rattle.numbers.specs.declared.Refusal.{Refusal}
 use Rattle.numbers.specs.declared.Refusal.TheVariants.{Field15, Key26}
 use Rattle.fields.specs.Fields.{run}
-use Rattle.fields.proofs.Laws.{run_found}
+use Rattle.fields.proofs.Laws.{run_found, run_read, found_err}
 use Rattle.keylengths.specs.KeyLengths.{said_length, block_length}
 
 -- the length that the characters ahead say
@@ -31,28 +30,11 @@ said_ahead s at = rw (get_or-drop at s 1 0, get_or-drop at s 2 0, get_or-drop at
 pub version_ahead : (s : List ℕ) (at : ℕ) → value_of (get_or (drop at s) 0 0) ≡ value_of (get_or s at 0)
 version_ahead s at = rw (get_or-drop at s 0 0, add-zero at)
 
+-- what the version and the length go by
+pub ruleset length_parts = (version_ahead, run_read, found_err)
+
 module _ (cs : List ℕ) where
-  -- no five digits
-  pub length_undigited : (q : Refusal) → run Digit Field15 Key26 5 cs ≡ refused q → block_length cs ≡ refused q
-  unfolding block_length
-  length_undigited q e = rw e
-
   module _ (r : ℕ × ℕ) (e : run Digit Field15 Key26 5 cs ≡ done r) where
-    -- a version above 1
-    pub length_version : 1 < value_of (get_or cs 0 0) → block_length cs ≡ refused Key26
-    unfolding block_length
-    length_version h = rw (e, lt-leb (value_of (get_or cs 0 0)) 1 h)
-
-    -- too short
-    pub length_short : value_of (get_or cs 0 0) ≤ 1 → said_length cs < 16 → block_length cs ≡ refused Key26
-    unfolding block_length
-    length_short v h = rw (e, le-leb (value_of (get_or cs 0 0)) 1 v, lt-leb 16 (said_length cs) h)
-
-    -- too long
-    pub length_long : value_of (get_or cs 0 0) ≤ 1 → 16 ≤ said_length cs → 512 < said_length cs → block_length cs ≡ refused Key26
-    unfolding block_length
-    length_long v l h = rw (e, le-leb (value_of (get_or cs 0 0)) 1 v, le-leb 16 (said_length cs) l, lt-leb (said_length cs) 512 h)
-
     -- the length is there
     pub length_whole : value_of (get_or cs 0 0) ≤ 1 → 16 ≤ said_length cs → said_length cs ≤ 512 → block_length cs ≡ done (said_length cs, 5)
     unfolding block_length

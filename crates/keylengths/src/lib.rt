@@ -2,14 +2,15 @@
 #![tactic(auto)]
 
 ghost use Rattle.std.specs.Prelude.{◌≡◌, ◌+◌, ◌≤◌, length, drop};
-ghost use Rattle.fields.specs.Answers.{value_from};
+ghost use Rattle.fields.specs.Answers.{found_at};
 ghost use Rattle.keylengths.specs.KeyLengths.{said_length, block_length};
 
 use alphabet::Class;
-use fields::{Cursor, Value};
+use fields::Cursor;
 use numbers::Refusal;
 
 // The length that a key block says it has.
+#[tactic(auto, using(alphabet::proofs::Laws::value_below, crate::proofs::Laws::said_ahead))]
 fn said_length(command: &[u8], at: usize) -> usize
     requires { at + 5 ≤ length command.now }
     ensures { result ≡ said_length (drop at command.now) }
@@ -19,23 +20,18 @@ fn said_length(command: &[u8], at: usize) -> usize
 }
 
 // The version and the length of a key block.
-pub fn block_length(cursor: Cursor, command: &[u8]) -> Value
-    ensures { result ≡ value_from cursor.at (block_length (drop cursor.at command.now)) }
+#[tactic(auto, using(crate::proofs::Laws::length_parts), unfolding(crate::specs::KeyLengths::block_length))]
+pub fn block_length(cursor: Cursor, command: &[u8]) -> Result<(usize, Cursor), Refusal>
+    ensures { result ≡ found_at cursor.at (block_length (drop cursor.at command.now)) }
 {
-    let digits = cursor.run(command, 5, Class::Digit, Refusal::Field15, Refusal::Key26);
-    let Value::Got(_, next) = digits else {
-        return digits;
-    };
+    let (_, next) = cursor.run(command, 5, Class::Digit, Refusal::Field15, Refusal::Key26)?;
     let at = cursor.at;
     if 1 < alphabet::value(command[at]) {
-        return Value::Bad(Refusal::Key26);
+        return Err(Refusal::Key26);
     }
     let length = said_length(command, at);
-    if length < 16 {
-        return Value::Bad(Refusal::Key26);
+    if !(16..=512).contains(&length) {
+        return Err(Refusal::Key26);
     }
-    if 512 < length {
-        return Value::Bad(Refusal::Key26);
-    }
-    Value::Got(length, next)
+    Ok((length, next))
 }

@@ -1,12 +1,10 @@
 -- Fields 1 to 3, key type, PIN key and PVK. Readers, over the characters ahead.
-use Rattle.std.specs.Prelude.{ℕ, List, [], ◌∷◌, Bool, true, false, ◌&&◌, cond, length, get_or, drop, leb}
+use Rattle.std.specs.Prelude.{ℕ, List, [], ◌∷◌, Bool, true, false, ◌&&◌, cond, length, get_or, drop, leb, Option, None}
 use Rattle.alphabet.specs.Alphabet.{admits, begins}
 use Rattle.alphabet.specs.declared.Class.TheVariants.{CapitalHex}
 use Rattle.numbers.specs.Numbers.{done, refused, and_then}
 use Rattle.numbers.specs.declared.Refusal.TheVariants.{Field15, Key26}
 use Rattle.fields.specs.Fields.{Found, run, marked, behind}
-use Rattle.lmk.specs.declared.Lmk.{Lmk}
-use Rattle.lmk.specs.declared.Lmk.TheVariants.{Absent}
 use Rattle.uses.specs.declared.Use.{Use}
 use Rattle.keyblocks.specs.KeyBlocks.{key_block}
 use Rattle.keys.specs.declared.Letters.{Letters}
@@ -44,8 +42,8 @@ key_type cs =
 -- ---- 2. PIN key, then 3. PVK
 
 -- the hex characters of a key
-unfoldable pub hex_key : ℕ → List ℕ → Found Lmk
-hex_key n cs = and_then (run CapitalHex Field15 Field15 n cs) (λ r. done (Absent, r.1))
+unfoldable pub hex_key : ℕ → List ℕ → Found (Option ℕ)
+hex_key n cs = and_then (run CapitalHex Field15 Field15 n cs) (λ r. done (None, r.1))
 
 -- `U`, `T`, `S`
 abbrev pub letter_u : ℕ
@@ -58,12 +56,12 @@ abbrev pub letter_s : ℕ
 letter_s = 0x53
 
 -- a key, where the field admits its letter: "another letter is 26"
-abbrev pub admitted : Bool → Found Lmk → Found Lmk
+abbrev pub admitted : Bool → Found (Option ℕ) → Found (Option ℕ)
 admitted allowed found = cond allowed found (refused Key26)
 
 -- "U + 32 or T + 48 hex characters", S and a key block; or a bare key, 32 hex characters without a letter, which the paper does not have
 -- and no key type admits
-unfoldable pub lettered : Letters → Use → List ℕ → Found Lmk
+unfoldable pub lettered : Letters → Use → List ℕ → Found (Option ℕ)
 lettered letters for cs =
     cond (marked letter_u cs) (behind 1 (admitted letters.double (hex_key 32 (drop 1 cs))))
     (cond (marked letter_t cs) (behind 1 (admitted letters.triple (hex_key 48 (drop 1 cs))))
@@ -71,5 +69,5 @@ lettered letters for cs =
     (admitted (letters.bare && admits CapitalHex (get_or cs 0 0)) (hex_key 32 cs))))
 
 -- "A key field is judged letter first"; a missing letter is a missing character
-unfoldable pub key : Letters → Use → List ℕ → Found Lmk
+unfoldable pub key : Letters → Use → List ℕ → Found (Option ℕ)
 key letters for cs = cond (leb 1 (length cs)) (lettered letters for cs) (refused Field15)

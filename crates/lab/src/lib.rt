@@ -7,6 +7,7 @@ ghost use Rattle.fields.specs.Fields.{shown};
 ghost use Rattle.lab.specs.Lab.{bytes_of, made_of, clear_block, validation_cipher, lab_answered, lab_replying};
 
 use ciphers::Way;
+use keybox::BoxAnswers;
 use responses::Told;
 use settings::Settings;
 
@@ -64,15 +65,11 @@ pub fn answer(settings: Settings, command: &[u8], pinkey: &[u8], pvk: &[u8], out
 {
     let clear = clear_block(settings, command, pinkey);
     let cipher = validation_cipher(settings, command, pvk);
-    let pingood = parity::odd_parity(pinkey);
-    let pvkgood = parity::odd_parity(pvk);
-    commands::answer(
-        settings,
-        pingood,
-        pvkgood,
-        command,
-        run(&clear),
-        run(&cipher),
-        out,
-    )
+    let answers = BoxAnswers {
+        pinparity: parity::odd_parity(pinkey),
+        pvkparity: parity::odd_parity(pvk),
+        block: run(&clear),
+        enciphered: run(&cipher),
+    };
+    commands::answer(settings, answers, command, out)
 }

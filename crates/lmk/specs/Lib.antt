@@ -1,2 +1,1 @@
 pub mod Lmk
-pub mod Answers

@@ -2,12 +2,14 @@
 -- Assumes nothing.
 use Prim.Native.Nat.{ℕ}
 use native.Mathlib.Omega.{arith}
-use mathlib.Core.Path.{◌≡◌, refl, sym, ap₂, ◌∙◌, subst}
-use mathlib.Core.List.{List, ◌++◌}
+use mathlib.Core.Path.{◌≡◌, refl, sym, ap, ap₂, ◌∙◌, subst}
+use mathlib.Core.List.{List, [], ◌++◌}
+use Rattle.std.specs.Prelude.{Ok, Err}
 use mathlib.Core.Bool.{Bool, true, false}
 use lib.ListN.{length, drop}
 use Rattle.numbers.specs.Numbers.{Judged, Outcome, done, refused, and_then, unless, number_of}
 use Rattle.numbers.specs.Promise.{Said, Does, quietly}
+use Rattle.numbers.specs.Answers.{result_of, verdict_of, verdict_says}
 use Rattle.numbers.specs.declared.Refusal.{Refusal}
 use Rattle.numbers.specs.declared.Reply.{Reply}
 
@@ -46,3 +48,20 @@ value_of_lem e = cc
 -- the same outcome by another name
 pub does_as : {A : Type 0} (o o' : Outcome (List A)) {before after : List A} {r : Reply} → o ≡ o' → Does (quietly o) before r after → Does (quietly o') before r after
 does_as {A} o o' {before} {after} {r} e d = subst (λ (x : Outcome (List A)). Does (quietly x) before r after) e d
+
+-- ---- behind an answer of the code
+
+-- it holds a value
+pub result_ok : {Q A B : Type 0} (held : A → B) (o : Judged Q A) (b : B) → Ok b ≡ result_of held o → (a : A) × (o ≡ done a) × (b ≡ held a)
+result_ok held (done a) b e = (a, refl, cc)
+result_ok held (refused q) b e = absurd (let z : ◌≡◌ {A = ℕ} 0 1 = cc in omega arith)
+
+-- it holds a fault
+pub result_err : {Q A B : Type 0} (held : A → B) (o : Judged Q A) (q : Q) → Err q ≡ result_of held o → o ≡ refused q
+result_err held (done a) q e = absurd (let z : ◌≡◌ {A = ℕ} 0 1 = cc in omega arith)
+result_err held (refused p) q e = cc
+
+-- where 00 writes nothing, the verdict says what was judged
+pub verdict_said : (o : Outcome (List ℕ)) → ((ws : List ℕ) → o ≡ done ws → ws ≡ []) → verdict_says (verdict_of o) ≡ o
+verdict_said (done ws) nothing = ap done (sym (nothing ws refl))
+verdict_said (refused q) nothing = refl

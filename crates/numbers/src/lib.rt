@@ -1,32 +1,35 @@
 // The numbers that the host and the server meet.
 #![tactic(auto)]
 
-ghost use Rattle.std.specs.Prelude.{◌≡◌};
+ghost use Rattle.std.specs.Prelude.{◌≡◌, []};
 ghost use Rattle.numbers.specs.Numbers.{number_of};
+ghost use Rattle.numbers.specs.Promise.{Does, quietly};
+ghost use Rattle.numbers.specs.Answers.{verdict_says};
 
-// Each refusal, and the verdict 01, by what it means and the paper's number.
+// Each refusal, and the verdict 01, by what it means, under the paper's number.
 #[derive(Clone, Copy)]
 pub enum Refusal {
-    Unverified01,
-    WeakList03,
-    PinKeyParity10,
-    PvkParity11,
-    Field15,
-    Block20,
-    Format23,
-    Length24,
-    Table25,
-    Key26,
-    Use29,
-    Code68,
-    NotHere69,
-    Check81,
-    Weak86,
-    Room901,
-    Frame902,
+    Unverified01 = 1,
+    WeakList03 = 3,
+    PinKeyParity10 = 10,
+    PvkParity11 = 11,
+    Field15 = 15,
+    Block20 = 20,
+    Format23 = 23,
+    Length24 = 24,
+    Table25 = 25,
+    Key26 = 26,
+    Use29 = 29,
+    Code68 = 68,
+    NotHere69 = 69,
+    Check81 = 81,
+    Weak86 = 86,
+    Room901 = 901,
+    Frame902 = 902,
 }
 
-// What every call answers: the number, and how many bytes, digits or differences it wrote.
+// What every call answers: the number, and how many bytes, digits or differences it wrote. It is no Result: C reads the number, and an
+// answering call writes where it refuses too, so that every promise (`Does`) speaks of both.
 #[repr(C)]
 #[derive(Clone, Copy)]
 pub struct Reply {
@@ -51,30 +54,22 @@ impl Reply {
     {
         Reply { number: 0, written }
     }
+
+    // What a call for a verdict answers: 00, or why there is none, 01 too. It writes nothing.
+    pub fn verdict(judged: Result<(), Refusal>) -> Reply
+        ensures { Does (quietly (verdict_says judged)) [] result [] }
+    {
+        match judged {
+            Ok(()) => Reply::done(0),
+            Err(q) => Reply::refused(q),
+        }
+    }
 }
 
 impl Refusal {
     pub fn number(self) -> u32
         ensures { result ≡ number_of self }
     {
-        match self {
-            Refusal::Unverified01 => 1,
-            Refusal::WeakList03 => 3,
-            Refusal::PinKeyParity10 => 10,
-            Refusal::PvkParity11 => 11,
-            Refusal::Field15 => 15,
-            Refusal::Block20 => 20,
-            Refusal::Format23 => 23,
-            Refusal::Length24 => 24,
-            Refusal::Table25 => 25,
-            Refusal::Key26 => 26,
-            Refusal::Use29 => 29,
-            Refusal::Code68 => 68,
-            Refusal::NotHere69 => 69,
-            Refusal::Check81 => 81,
-            Refusal::Weak86 => 86,
-            Refusal::Room901 => 901,
-            Refusal::Frame902 => 902,
-        }
+        self as u32
     }
 }

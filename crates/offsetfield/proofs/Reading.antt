@@ -4,23 +4,21 @@ use Prim.Native.Nat.{ℕ, ◌+◌, ◌-◌, ◌≤◌, ◌<◌}
 use native.Mathlib.Omega.{arith}
 use mathlib.Core.Path.{◌≡◌, ap, ◌∙◌}
 use mathlib.Core.List.{List}
+use Rattle.std.specs.Prelude.{Ok, Err}
 use lib.ListN.{length, take, drop, length-drop}
 use borrow.Author.Tests.{le-leb, lt-leb}
 use Rattle.numbers.specs.declared.Refusal.{Refusal}
 use Rattle.numbers.specs.declared.Refusal.TheVariants.{Field15}
-use Rattle.numbers.proofs.Laws.{failed}
-use Rattle.pins.specs.Answers.{reading_of}
+use Rattle.numbers.proofs.Laws.{result_ok, result_err}
+use Rattle.pins.specs.Answers.{pin_of, reading_of}
 use Rattle.pins.specs.declared.Pin.{Pin}
-use Rattle.pins.specs.declared.Reading.TheVariants as reading
-use Rattle.pins.proofs.Laws.{reading_got, reading_bad}
 use Rattle.offsettexts.specs.OffsetTexts.{offset_presented}
-use Rattle.fields.specs.Answers.{cursor_at, value_from}
-use Rattle.fields.specs.declared.Value.TheVariants.{Got, Bad}
+use Rattle.fields.specs.Answers.{cursor_at, found_at}
 use Rattle.offsetfield.specs.OffsetField.{offset_field}
 
 module _ (s : List ℕ) (at : ℕ) where
   -- there are not twelve characters
-  pub offset_short : length s - at < 12 → Bad Field15 ≡ value_from at (offset_field (drop at s))
+  pub offset_short : length s - at < 12 → Err Field15 ≡ found_at at (offset_field (drop at s))
   unfolding offset_field
   offset_short h = rw (lt-leb 12 (length (drop at s)) (omega (arith, length-drop at s)))
 
@@ -33,16 +31,16 @@ module _ (s : List ℕ) (at : ℕ) where
 
   module _ (h : 12 ≤ length s - at) where
     -- they are no offset
-    pub offset_wrong : (q : Refusal) → reading.Bad q ≡ reading_of (offset_presented lent) → Bad Field15 ≡ value_from at (offset_field (drop at s))
+    pub offset_wrong : (q : Refusal) → Err q ≡ reading_of (offset_presented lent) → Err q ≡ found_at at (offset_field (drop at s))
     unfolding offset_field
     offset_wrong q e =
-        let bad = ap offset_presented part ∙ reading_bad (offset_presented lent) q e in
-        rw (le-leb 12 (length (drop at s)) (omega (arith, length-drop at s)), (failed Field15 q _ _ bad).1)
+        let bad = ap offset_presented part ∙ result_err pin_of (offset_presented lent) q e in
+        rw (le-leb 12 (length (drop at s)) (omega (arith, length-drop at s)), bad)
 
     -- they are one
-    pub offset_whole : (p : Pin) → reading.Got p ≡ reading_of (offset_presented lent) → Got p.length (cursor_at (at + 12)) ≡ value_from at (offset_field (drop at s))
+    pub offset_whole : (p : Pin) → Ok p ≡ reading_of (offset_presented lent) → Ok (p.length, cursor_at (at + 12)) ≡ found_at at (offset_field (drop at s))
     unfolding offset_field
     offset_whole p e =
-        let g = reading_got (offset_presented lent) p e in
+        let g = result_ok pin_of (offset_presented lent) p e in
         let found = ap offset_presented part ∙ g.1 in
-        rw (le-leb 12 (length (drop at s)) (omega (arith, length-drop at s)), found) (ap (λ (x : Pin). Got x.length (cursor_at (at + 12))) g.2)
+        rw (le-leb 12 (length (drop at s)) (omega (arith, length-drop at s)), found) (ap (λ (x : Pin). Ok (x.length, cursor_at (at + 12))) g.2)

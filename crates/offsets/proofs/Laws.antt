@@ -1,30 +1,30 @@
 -- What the answers tell of the outcomes behind them, and what the outcomes hold.
 -- Assumes nothing.
-use Prim.Native.Nat.{ℕ, ◌≤◌, ◌<◌, ◌^◌}
+use Prim.Native.Nat.{ℕ, ◌≤◌}
 use native.Mathlib.Omega.{arith}
 use mathlib.Core.Path.{◌≡◌, refl, sym, ap, ap₂, ◌∙◌, subst}
 use mathlib.Core.List.{List, map}
-use mathlib.Core.Bool.{Bool, true, false, ◌&&◌}
+use mathlib.Core.Bool.{Bool, true, false}
 use lib.ListN.{length}
 use lib.IntN.{ℤ}
 use lib.Dec.{leb, eqb, lit≤}
 use borrow.Author.Tests.{leb-true, eqb-true}
-use Rattle.nibbles.specs.Nibbles.{row, word, within, every, nibs}
+use Rattle.nibbles.specs.Nibbles.{row, word, every}
 use Rattle.nibbles.proofs.Lists.{Below, below_weaken}
-use Rattle.nibbles.proofs.Rows.{row_word, word_under, row_length}
+use Rattle.nibbles.proofs.Rows.{row_word, row_length}
+use Rattle.nibbles.proofs.Bytes.{nibs_length}
 use Rattle.nibbles.proofs.Runs.{below_every, every_below}
 use Rattle.numbers.specs.Numbers.{Outcome, done, refused, and_then, unless}
 use Rattle.numbers.specs.declared.Refusal.{Refusal}
 use Rattle.numbers.specs.declared.Refusal.TheVariants.{Field15, Block20, Length24, Table25, Check81, Room901}
-use Rattle.numbers.proofs.Laws.{passed, failed, then_done, value_of_lem}
-use Rattle.pins.specs.Pins.{digit, pin_handed, digits_handed, account_of, account_field, sized, padded}
+use Rattle.numbers.proofs.Laws.{passed, failed, then_done, value_of_lem, result_ok}
+use Rattle.pins.specs.Pins.{digit, pin_handed, digits_handed, account_of, account_field, sized}
 use Rattle.alphabet.specs.Alphabet.{all_of, value_of}
 use Rattle.alphabet.specs.declared.Class.TheVariants.{Digit}
 use Rattle.codes.specs.Codes.{code_of, format_of}
 use Rattle.formats.specs.declared.Format.{Format}
-use Rattle.pins.proofs.Laws.{Pinned, handed_done, account_done, digits_below, through, then_alike}
+use Rattle.pins.proofs.Laws.{Pinned, handed_done, account_done, digits_below, sized_done, through, then_alike}
 use Rattle.blocks.specs.Blocks.{read_row}
-use Rattle.answers.proofs.Laws.{Sixteen, bytes_sixteen, sixteen_word}
 use Rattle.blocks.proofs.Laws.{read_pinned}
 use Rattle.pins.specs.Answers.{reading_of}
 use Rattle.naturals.specs.Naturals.{table_of, natural_handed, table_sized}
@@ -34,31 +34,10 @@ use Rattle.naturals.proofs.Laws.{natural_long, natural_digits}
 use Rattle.ibm3624.proofs.Laws.{offset_many, reduced_below}
 use Rattle.ibm3624.specs.Answers.{Matched}
 use Rattle.offsets.specs.Offsets.{given, pin_with_natural, pin_and_natural, digits_given, offset_for, offset_judged, digits_judged, spelt, differences_of}
-use Rattle.offsets.specs.Answers.{given_of, comparison_of, rows_in, pair_in, Fit, text_of, Roomy}
+use Rattle.offsets.specs.Answers.{comparison_of, compared_of, rows_in, pair_in, Fit, text_of, Roomy}
 use Rattle.offsets.specs.declared.Rows.{Rows}
-use Rattle.offsets.specs.declared.Given.TheVariants as taken
 use Rattle.offsets.specs.declared.Compared.{Compared}
-use Rattle.offsets.specs.declared.Comparison.TheVariants as comparison
-
--- ---- behind the answers
-
-given_of_lem : (o : Outcome (List ℕ × List ℕ × List ℕ)) (r : Rows) → taken.Of r ≡ given_of o
-    → (g : List ℕ × List ℕ × List ℕ) × (o ≡ done g) × (r ≡ record { block = word g.0; account = word g.1; enciphered = word g.2 })
-given_of_lem (done g) r e = (g, refl, cc)
-given_of_lem (refused q) r e = absurd (let z : ◌≡◌ {A = ℕ} 0 1 = cc in omega arith)
-
-given_bad : (o : Outcome (List ℕ × List ℕ × List ℕ)) (q : Refusal) → taken.Bad q ≡ given_of o → o ≡ refused q
-given_bad (done g) q e = absurd (let z : ◌≡◌ {A = ℕ} 0 1 = cc in omega arith)
-given_bad (refused p) q e = cc
-
-pub comparison_of_lem : (o : Outcome (List ℕ × List ℕ)) (c : Compared) → comparison.Of c ≡ comparison_of o
-    → (p : List ℕ × List ℕ) × (o ≡ done p) × (c ≡ record { length = length p.0; pin = word p.0; natural = word p.1 })
-comparison_of_lem (done p) c e = (p, refl, cc)
-comparison_of_lem (refused q) c e = absurd (let z : ◌≡◌ {A = ℕ} 0 1 = cc in omega arith)
-
-pub comparison_bad : (o : Outcome (List ℕ × List ℕ)) (q : Refusal) → comparison.Bad q ≡ comparison_of o → o ≡ refused q
-comparison_bad (done p) q e = absurd (let z : ◌≡◌ {A = ℕ} 0 1 = cc in omega arith)
-comparison_bad (refused p) q e = cc
+use Rattle.std.specs.Prelude.{Result, Ok}
 
 -- ---- a PIN and a natural PIN of one length
 
@@ -67,16 +46,12 @@ pub record Alike (p : List ℕ × List ℕ) : Type 0 where
   pub long : length p.1 ≡ length p.0
   pub natural : Below 10 p.1
 
--- the value that holds them
-abbrev pub value_in : List ℕ × List ℕ → Compared
-value_in p = record { length = length p.0; pin = word p.0; natural = word p.1 }
-
-pub pair_back : (p : List ℕ × List ℕ) → Alike p → pair_in (value_in p) ≡ p
+pub pair_back : (p : List ℕ × List ℕ) → Alike p → pair_in (compared_of p) ≡ p
 pair_back p a =
     ap₂ (λ (x y : List ℕ). (x, y)) (row_word p.0 (below_weaken 10 16 p.0 (lit≤ tt) a.pin.digits))
     (ap (λ (n : ℕ). row n (word p.1)) (sym a.long) ∙ row_word p.1 (below_weaken 10 16 p.1 (lit≤ tt) a.natural))
 
-pub pair_fit : (p : List ℕ × List ℕ) → Alike p → Fit (value_in p)
+pub pair_fit : (p : List ℕ × List ℕ) → Alike p → Fit (compared_of p)
 pair_fit p a =
     record {
       short = a.pin.short;
@@ -126,16 +101,16 @@ module _ (f : Format) (ts : List ℕ) (g : List ℕ × List ℕ × List ℕ) (ns
 
 -- a value that is given may be compared, and holds the PIN and natural PIN of the outcome
 pub comparison_fit :
-    (o : Outcome (List ℕ × List ℕ)) → ((p : List ℕ × List ℕ) → o ≡ done p → Alike p) → (c : Compared) → comparison.Of c ≡ comparison_of o
+    (o : Outcome (List ℕ × List ℕ)) → ((p : List ℕ × List ℕ) → o ≡ done p → Alike p) → (c : Compared) → Ok c ≡ comparison_of o
     → (p : List ℕ × List ℕ) × (o ≡ done p) × Fit c × (pair_in c ≡ p)
 comparison_fit o alike c e =
-    let p = comparison_of_lem o c e in
+    let p = result_ok compared_of o c e in
     let a = alike p.0 p.1 in
     (p.0, p.1, subst Fit (sym p.2) (pair_fit p.0 a), ap pair_in p.2 ∙ pair_back p.0 a)
 
 -- such a value, of rows in words and a table of digits
 pub with_natural_compared :
-    (f : Format) (ts : List ℕ) (rows : Rows) → every digit ts ≡ true → (c : Compared) → comparison.Of c ≡ comparison_of (pin_with_natural f ts (rows_in rows))
+    (f : Format) (ts : List ℕ) (rows : Rows) → every digit ts ≡ true → (c : Compared) → Ok c ≡ comparison_of (pin_with_natural f ts (rows_in rows))
     → (p : List ℕ × List ℕ) × (pin_with_natural f ts (rows_in rows) ≡ done p) × Fit c × (pair_in c ≡ p)
 with_natural_compared f ts rows t =
     comparison_fit (pin_with_natural f ts (rows_in rows))
@@ -205,40 +180,23 @@ matched p f m h = record { short = f.short; within = h; digits = f.digits; natur
 
 -- ---- the fields at 15
 
--- nothing but 15 is answered
-abbrev Only15 : {A : Type 0} → Outcome A → Type 0
-Only15 o = (q : Refusal) → o ≡ refused q → o ≡ refused Field15
-
-only_unless : {A : Type 0} (b : Bool) (a : A) → Only15 (unless Field15 b a)
-only_unless b a q e = (failed Field15 q b a e).1
-
-only_then : {A B : Type 0} (o : Outcome A) (next : A → Outcome B) → Only15 o → ((a : A) → Only15 (next a)) → Only15 (and_then o next)
-only_then (done a) next h k q e = k a q e
-only_then (refused p) next h k q e = ap (λ (o : Outcome _). and_then o next) (h p refl)
-
-only_done : {A : Type 0} (a : A) → Only15 (done a)
-only_done a q e = absurd (let z : ◌≡◌ {A = ℕ} 0 1 = cc in omega arith)
-
 -- the rows that were given
 pub record Laid (table : List ℕ) (g : List ℕ × List ℕ × List ℕ) : Type 0 where
-  pub ns : Sixteen g.0
-  pub digits : (length g.1 ≡ 12) × Below 16 g.1
-  pub es : Sixteen g.2
+  pub ns : length g.0 ≡ 16
+  pub digits : length g.1 ≡ 12
+  pub es : length g.2 ≡ 16
   pub whole : length table ≡ 16
 
-module _ (code check : ℕ) (block account table enciphered : List ℕ) where
-  given_refused : (q : Refusal) → given code check block account table enciphered ≡ refused q → given code check block account table enciphered ≡ refused Field15
-  unfolding given
-  given_refused =
-      only_then (check_length check) _ (only_unless (within 4 12 check) check)
-      (λ _. only_then (sized 8 block) _ (only_unless (eqb (length block) 8) (nibs block))
-      (λ ns. only_then (account_of account) _ (only_unless (eqb (length account) 12 && all_of Digit account) (padded (map value_of account)))
-      (λ digits. only_then (table_sized table) _ (only_unless (eqb (length table) 16) table)
-      (λ _. only_then (sized 8 enciphered) _ (only_unless (eqb (length enciphered) 8) (nibs enciphered)) (λ es. only_done (ns, digits, es))))))
+-- eight bytes have sixteen nibbles
+eight : (bs ns : List ℕ) → sized 8 bs ≡ done ns → length ns ≡ 16
+eight bs ns e =
+    let s = sized_done 8 bs ns e in
+    ap length (sym s.1) ∙ nibs_length bs ∙ (let n = s.0 in omega arith)
 
-  pub given_laid : Below 256 block → Below 256 enciphered → (g : List ℕ × List ℕ × List ℕ) → given code check block account table enciphered ≡ done g → Laid table g
+module _ (code check : ℕ) (block account table enciphered : List ℕ) where
+  pub given_laid : (g : List ℕ × List ℕ × List ℕ) → given code check block account table enciphered ≡ done g → Laid table g
   unfolding given
-  given_laid b c g e =
+  given_laid g e =
       let k = then_done (check_length check) _ g e in
       let s = then_done (sized 8 block) _ g k.2 in
       let n = then_done (account_of account) _ g s.2 in
@@ -246,22 +204,11 @@ module _ (code check : ℕ) (block account table enciphered : List ℕ) where
       let l = then_done (sized 8 enciphered) _ g t.2 in
       subst (Laid table) (value_of_lem l.2)
       (record {
-        ns = bytes_sixteen block s.0 b s.1;
-        digits = account_done account n.0 n.1;
-        es = bytes_sixteen enciphered l.0 c l.1;
+        ns = eight block s.0 s.1;
+        digits = (account_done account n.0 n.1).0;
+        es = eight enciphered l.0 l.1;
         whole = eqb-true _ _ (passed Field15 (eqb (length table) 16) table t.0 t.1).0;
       })
-
-  -- the words that hold them
-  laid_back : (g : List ℕ × List ℕ × List ℕ) → Laid table g → rows_in (record { block = word g.0; account = word g.1; enciphered = word g.2 }) ≡ g
-  laid_back g l =
-      ap₃ (sixteen_word g.0 l.ns) (ap (λ (n : ℕ). row n (word g.1)) (sym l.digits.0) ∙ row_word g.1 l.digits.1) (sixteen_word g.2 l.es)
-    where
-      ap₃ : {x x' y y' z z' : List ℕ} → x ≡ x' → y ≡ y' → z ≡ z' → ◌≡◌ {A = List ℕ × List ℕ × List ℕ} (x, y, z) (x', y', z')
-      ap₃ p q r = λ i. (p i, q i, r i)
-
-  laid_account : (g : List ℕ × List ℕ × List ℕ) → Laid table g → word g.1 < 16 ^ 12
-  laid_account g l = word_under 12 g.1 l.digits.1 (omega (arith, l.digits.0))
 
   -- the PIN and natural PIN made of them
   pub pair_alike : (g : List ℕ × List ℕ × List ℕ) → Laid table g → (p : List ℕ × List ℕ) → pin_and_natural code table g ≡ done p → Alike p
@@ -270,36 +217,13 @@ module _ (code check : ℕ) (block account table enciphered : List ℕ) where
       let f = then_done (format_of (code_of code)) _ p e in
       let t = then_done (table_of table) _ p f.2 in
       let tp = passed Table25 (all_of Digit table) (map value_of table) t.0 t.1 in
-      natural_alike f.0 t.0 g l.ns.long l.digits.0 l.es.long (subst (Below 10) tp.1 (digits_below table tp.0)) p t.2
+      natural_alike f.0 t.0 g l.ns l.digits l.es (subst (Below 10) tp.1 (digits_below table tp.0)) p t.2
 
-  -- words that were given hold them, and why none were
-  pub given_fit :
-      Below 256 block → Below 256 enciphered → (r : Rows) → taken.Of r ≡ given_of (given code check block account table enciphered)
-      → (g : List ℕ × List ℕ × List ℕ) × (given code check block account table enciphered ≡ done g) × Laid table g × (r.account < 16 ^ 12) × (rows_in r ≡ g)
-  given_fit b c r e =
-      let g = given_of_lem (given code check block account table enciphered) r e in
-      let laid = given_laid b c g.0 g.1 in
-      (g.0, g.1, laid, subst (λ (x : Rows). x.account < 16 ^ 12) (sym g.2) (laid_account g.0 laid), ap rows_in g.2 ∙ laid_back g.0 laid)
-
-  pub given_none : (q : Refusal) → taken.Bad q ≡ given_of (given code check block account table enciphered) → given code check block account table enciphered ≡ refused Field15
-  given_none q e = given_refused q (given_bad (given code check block account table enciphered) q e)
-
-  -- the PIN and natural PIN of such words, and why there are none
-  module _ (b : Below 256 block) (c : Below 256 enciphered) (r : Rows) (e : taken.Of r ≡ given_of (given code check block account table enciphered)) where
-    pub given_compared :
-        (x : Compared) → comparison.Of x ≡ comparison_of (pin_and_natural code table (rows_in r))
-        → (g : List ℕ × List ℕ × List ℕ) × (given code check block account table enciphered ≡ done g) × (p : List ℕ × List ℕ) × (pin_and_natural code table g ≡ done p) × Fit x × (pair_in x ≡ p)
-    given_compared x h =
-        let g = given_fit b c r e in
-        let p = comparison_fit (pin_and_natural code table g.0) (pair_alike g.0 g.2) x (subst (λ (l : List ℕ × List ℕ × List ℕ). comparison.Of x ≡ comparison_of (pin_and_natural code table l)) g.4 h) in
-        (g.0, g.1, p.0, p.1, p.2, p.3)
-
-    pub given_incomparable :
-        (q : Refusal) → comparison.Bad q ≡ comparison_of (pin_and_natural code table (rows_in r))
-        → (g : List ℕ × List ℕ × List ℕ) × (given code check block account table enciphered ≡ done g) × (pin_and_natural code table g ≡ refused q)
-    given_incomparable q h =
-        let g = given_fit b c r e in
-        (g.0, g.1, subst (λ (l : List ℕ × List ℕ × List ℕ). pin_and_natural code table l ≡ refused q) g.4 (comparison_bad (pin_and_natural code table (rows_in r)) q h))
+  -- the PIN and natural PIN of words that hold them
+  pub given_compared :
+      (r : Rows) → given code check block account table enciphered ≡ done (rows_in r) → (x : Compared) → Ok x ≡ comparison_of (pin_and_natural code table (rows_in r))
+      → (p : List ℕ × List ℕ) × (pin_and_natural code table (rows_in r) ≡ done p) × Fit x × (pair_in x ≡ p)
+  given_compared r h x = comparison_fit (pin_and_natural code table (rows_in r)) (pair_alike (rows_in r) (given_laid (rows_in r) h)) x
 
 -- ---- an outcome that is an offset, as the answer that is written
 
@@ -332,34 +256,23 @@ digits_texty variable check pin natural room ds e =
     (leb-true 12 room (passed Room901 (leb 12 room) room r.0 r.1).0) ds p.2
 
 pub offset_texty :
-    (variable : Bool) (code check : ℕ) (block account table enciphered : List ℕ) (room : ℕ) → Below 256 block → Below 256 enciphered
+    (variable : Bool) (code check : ℕ) (block account table enciphered : List ℕ) (room : ℕ)
     → Texty (offset_judged variable code check block account table enciphered room) room
-offset_texty variable code check block account table enciphered room b c ds e =
+offset_texty variable code check block account table enciphered room ds e =
     let r = then_done (unless Room901 (leb 12 room) room) _ ds (sym (offset_parts variable check room code block account table enciphered) ∙ e) in
     let g = then_done (given code check block account table enciphered) _ ds r.2 in
     let p = then_done (pin_and_natural code table g.0) _ ds g.2 in
-    let laid = given_laid code check block account table enciphered b c g.0 g.1 in
+    let laid = given_laid code check block account table enciphered g.0 g.1 in
     offset_texty_for variable check p.0 (pair_alike code check block account table enciphered g.0 laid p.0 p.1) room
     (leb-true 12 room (passed Room901 (leb 12 room) room r.0 r.1).0) ds p.2
 
 -- three words of one value
-pub ap₃ : {l l' p p' n n' : ℕ} → l ≡ l' → p ≡ p' → n ≡ n' → comparison.Of (record { length = l; pin = p; natural = n }) ≡ comparison.Of (record { length = l'; pin = p'; natural = n' })
-ap₃ d e f = λ i. comparison.Of (record { length = d i; pin = e i; natural = f i })
+pub ap₃ : {l l' p p' n n' : ℕ} → l ≡ l' → p ≡ p' → n ≡ n' → ◌≡◌ {A = Result Compared Refusal} (Ok (record { length = l; pin = p; natural = n })) (Ok (record { length = l'; pin = p'; natural = n' }))
+ap₃ d e f = λ i. Ok (record { length = d i; pin = e i; natural = f i })
 
--- ---- the differences, return by return
+-- ---- the differences
 
 module _ (variable : Bool) (check : ℕ) (pin natural : List ℕ) (room : ℕ) where
-  pub differences_room : leb 12 room ≡ false → differences_of variable check pin natural room ≡ refused Room901
-  differences_room e = rw (differences_parts variable check room pin natural, e)
-
-  pub differences_bad : leb 12 room ≡ true → (q : Refusal) → digits_given check pin natural ≡ refused q → differences_of variable check pin natural room ≡ refused q
-  differences_bad e q d = rw (differences_parts variable check room pin natural, e, d)
-
-  pub differences_long :
-      leb 12 room ≡ true → (p : List ℕ × List ℕ) → digits_given check pin natural ≡ done p → covers variable check (length p.0) ≡ refused Check81
-      → differences_of variable check pin natural room ≡ refused Check81
-  differences_long e p d k = rw (differences_parts variable check room pin natural, e, d, k)
-
   pub differences_made :
       leb 12 room ≡ true → (p : List ℕ × List ℕ) → digits_given check pin natural ≡ done p → (m : ℕ) → covers variable check (length p.0) ≡ done m
       → differences_of variable check pin natural room ≡ done (covered m p.0 p.1)

@@ -1,22 +1,34 @@
 // The IBM 3624 calls over a block or over digits: offset and differences.
 #![tactic(auto)]
 
-ghost use Rattle.std.specs.Prelude.{◌≡◌, map, ◌^◌, ◌<◌, length};
-ghost use Rattle.nibbles.specs.Nibbles.{every};
+ghost use Rattle.std.specs.Prelude.{◌≡◌, ◌+◌, ◌≤◌, map, length, IfOk};
+ghost use Rattle.nibbles.specs.Nibbles.{row, every};
 ghost use Rattle.alphabet.specs.Alphabet.{value_of};
 ghost use Rattle.numbers.specs.Promise.{Does, quietly};
-ghost use Rattle.pins.specs.Pins.{digit};
-ghost use Rattle.pins.specs.Answers.{reading_of};
+ghost use Rattle.numbers.specs.Numbers.{done};
+ghost use Rattle.pins.specs.Pins.{digit, sized};
+ghost use Rattle.pins.specs.Answers.{count_of, reading_of, row_of};
+ghost use Rattle.ibm3624.specs.Ibm3624.{check_length};
 ghost use Rattle.naturals.specs.Answers.{Decimal};
 ghost use Rattle.offsets.specs.Offsets.{given, pin_with_natural, pin_and_natural, digits_given, offset_for, offset_judged, digits_judged, offset_made, offset_of_digits, differences_of};
-ghost use Rattle.offsets.specs.Answers.{given_of, comparison_of, refusal_in, rows_in, pair_in, Fit, text_of, Roomy};
+ghost use Rattle.offsets.specs.Answers.{given_of, comparison_of, rows_in, pair_in, Fit, text_of, Roomy};
 
 use alphabet::Class;
-use codes::Chosen;
 use formats::Format;
 use numbers::{Refusal, Reply};
-use pins::{Count, Pin, Reading, Row};
+use pins::Pin;
 use settings::Settings;
+
+// What a call is given: the format's code and the check length, then the block, the account, the table and the enciphered block.
+#[derive(Clone, Copy)]
+pub struct Inputs<'a> {
+    pub format: u32,
+    pub check: u32,
+    pub block: &'a [u8],
+    pub account: &'a [u8],
+    pub table: &'a [u8],
+    pub enciphered: &'a [u8],
+}
 
 // The rows that a call was given.
 #[derive(Clone, Copy)]
@@ -24,13 +36,6 @@ pub struct Rows {
     pub block: u64,
     pub account: u64,
     pub enciphered: u64,
-}
-
-// Those rows, or why there are none.
-#[derive(Clone, Copy)]
-pub enum Given {
-    Of(Rows),
-    Bad(Refusal),
 }
 
 // A PIN and its natural PIN, of one length.
@@ -41,58 +46,44 @@ pub struct Compared {
     pub natural: u64,
 }
 
-// A PIN and its natural PIN, or why there are none.
-#[derive(Clone, Copy)]
-pub enum Comparison {
-    Of(Compared),
-    Bad(Refusal),
+// 15 for the check length.
+fn check_length(check: u32) -> Result<u32, Refusal>
+    ensures { result ≡ count_of (check_length check) }
+{
+    if check < 4 {
+        return Err(Refusal::Field15);
+    }
+    if 12 < check {
+        return Err(Refusal::Field15);
+    }
+    Ok(check)
 }
 
-impl Comparison {
-    // Why there is nothing to compare; asked only where there is not.
-    pub fn refusal(self) -> Refusal
-        ensures { result ≡ refusal_in self }
-    {
-        match self {
-            Comparison::Of(_) => Refusal::Field15,
-            Comparison::Bad(q) => q,
-        }
-    }
+// A run of bytes that has to have a width, and its nibbles: a row that was taken holds them.
+fn nibbles_of(bytes: &[u8], width: usize) -> Result<u64, Refusal>
+    requires { width ≤ 8 }
+    ensures judged { result ≡ row_of (sized width bytes.now) }
+    ensures held { IfOk result (λ w. sized width bytes.now ≡ done (row (width + width) w)) }
+{
+    pins::sized_row(bytes, width)
 }
 
 // 15, field by field: check length, block, account, table and enciphered block.
-pub fn taken(
-    format: u32,
-    check: u32,
-    block: &[u8],
-    account: &[u8],
-    table: &[u8],
-    enciphered: &[u8],
-) -> Given
-    ensures { result ≡ given_of (given format check block.now account.now table.now enciphered.now) }
+#[tactic(auto, unfolding(crate::specs::Offsets::given))]
+pub fn taken(inputs: Inputs) -> Result<Rows, Refusal>
+    ensures judged { let i = inputs.entry in
+        result ≡ given_of (given i.format i.check i.block.now i.account.now i.table.now i.enciphered.now) }
+    ensures held { let i = inputs.entry in
+        IfOk result (λ rows. given i.format i.check i.block.now i.account.now i.table.now i.enciphered.now ≡ done (rows_in rows)) }
 {
-    if check < 4 {
-        return Given::Bad(Refusal::Field15);
+    check_length(inputs.check)?;
+    let row = nibbles_of(inputs.block, codes::block_width(inputs.format))?;
+    let digits = pins::account(inputs.account)?;
+    if inputs.table.len() != 16 {
+        return Err(Refusal::Field15);
     }
-    if 12 < check {
-        return Given::Bad(Refusal::Field15);
-    }
-    let sized = pins::sized_row(block, codes::block_width(format));
-    let Row::Held(row) = sized else {
-        return Given::Bad(Refusal::Field15);
-    };
-    let kept = pins::account(account);
-    let Row::Held(digits) = kept else {
-        return Given::Bad(Refusal::Field15);
-    };
-    if table.len() != 16 {
-        return Given::Bad(Refusal::Field15);
-    }
-    let sealed = pins::sized_row(enciphered, 8);
-    let Row::Held(cipher) = sealed else {
-        return Given::Bad(Refusal::Field15);
-    };
-    Given::Of(Rows {
+    let cipher = nibbles_of(inputs.enciphered, 8)?;
+    Ok(Rows {
         block: row,
         account: digits,
         enciphered: cipher,
@@ -100,34 +91,28 @@ pub fn taken(
 }
 
 // The block: the PIN with its natural PIN.
-pub fn with_natural(format: Format, table: &[u8], rows: Rows) -> Comparison
-    requires { Decimal table.now × (rows.account < 16 ^ 12) }
+pub fn with_natural(format: Format, table: &[u8], rows: Rows) -> Result<Compared, Refusal>
+    requires { Decimal table.now }
     ensures { result ≡ comparison_of (pin_with_natural format (map value_of table.now) (rows_in rows)) }
 {
-    let reading = blocks::read(format, pins::field(rows.account), rows.block);
-    let Reading::Got(pin) = reading else {
-        return Comparison::Bad(reading.refusal());
-    };
-    let n = pin.length;
-    let natural = naturals::natural(n, table, rows.enciphered);
-    Comparison::Of(Compared {
-        length: n,
+    let pin = blocks::read(format, pins::field(rows.account), rows.block)?;
+    let natural = naturals::natural(pin.length, table, rows.enciphered);
+    Ok(Compared {
+        length: pin.length,
         pin: pin.digits,
         natural: natural.digits,
     })
 }
 
 // 23, 69, 25, the block: the PIN with its natural PIN.
-pub fn paired(format: u32, table: &[u8], rows: Rows) -> Comparison
-    requires { (length table.now ≡ 16) × (rows.account < 16 ^ 12) }
+#[tactic(auto, using(naturals::proofs::Laws::table_judged), unfolding(crate::specs::Offsets::pin_and_natural))]
+pub fn paired(format: u32, table: &[u8], rows: Rows) -> Result<Compared, Refusal>
+    requires { length table.now ≡ 16 }
     ensures { result ≡ comparison_of (pin_and_natural format table.now (rows_in rows)) }
 {
-    let chosen = Chosen::by(format);
-    let Chosen::Of(f) = chosen else {
-        return Comparison::Bad(chosen.refusal());
-    };
+    let f = codes::chosen(format)?;
     if !alphabet::all_of(Class::Digit, table, 0, 16) {
-        return Comparison::Bad(Refusal::Table25);
+        return Err(Refusal::Table25);
     }
     with_natural(f, table, rows)
 }
@@ -136,140 +121,94 @@ pub fn paired(format: u32, table: &[u8], rows: Rows) -> Comparison
 fn all_digits(digits: &[u8]) -> bool
     ensures { result ≡ every digit digits.now }
 {
-    let mut i = 0;
-    while i < digits.len() {
-        if 9 < digits[i] {
-            return false;
-        }
-        i += 1;
-    }
-    true
+    digits.iter().all(|d| *d <= 9)
 }
 
 // 15 for the check length, then the PIN, then the natural PIN: its digits before its length.
-fn handed(check: u32, pin: &[u8], natural: &[u8]) -> Comparison
+#[tactic(auto, unfolding(crate::specs::Offsets::digits_given))]
+fn handed(check: u32, pin: &[u8], natural: &[u8]) -> Result<Compared, Refusal>
     ensures { result ≡ comparison_of (digits_given check pin.now natural.now) }
 {
-    if check < 4 {
-        return Comparison::Bad(Refusal::Field15);
-    }
-    if 12 < check {
-        return Comparison::Bad(Refusal::Field15);
-    }
-    let reading = pins::handed(pin);
-    let Reading::Got(digits) = reading else {
-        return Comparison::Bad(reading.refusal());
-    };
+    check_length(check)?;
+    let digits = pins::handed(pin)?;
     if !all_digits(natural) {
-        return Comparison::Bad(Refusal::Block20);
+        return Err(Refusal::Block20);
     }
-    let n = digits.length;
-    if natural.len() != n {
-        return Comparison::Bad(Refusal::Length24);
+    if natural.len() != digits.length {
+        return Err(Refusal::Length24);
     }
-    let packing = pins::packed(natural);
-    let Reading::Got(naturals) = packing else {
-        return Comparison::Bad(Refusal::Block20);
-    };
-    Comparison::Of(Compared {
-        length: n,
+    let naturals = pins::packed(natural)?;
+    Ok(Compared {
+        length: digits.length,
         pin: digits.digits,
         natural: naturals.digits,
     })
 }
 
 // 81, and the offset's digits.
-pub fn offset_for(variable: bool, check: u32, p: Compared) -> Reading
+pub fn offset_for(variable: bool, check: u32, p: Compared) -> Result<Pin, Refusal>
     requires { Fit p }
     ensures { result ≡ reading_of (offset_for variable check (pair_in p)) }
 {
-    let n = p.length;
-    let covering = ibm3624::covering(variable, check as usize, n);
-    let Count::Of(m) = covering else {
-        return Reading::Bad(Refusal::Check81);
-    };
-    Reading::Got(Pin {
+    let m = ibm3624::covering(variable, check as usize, p.length)?;
+    Ok(Pin {
         length: m,
-        digits: ibm3624::offset(m, n, p.pin, p.natural),
+        digits: ibm3624::offset(m, p.length, p.pin, p.natural),
     })
 }
 
 // Answers with an offset, or with the refusal that stands in its place.
-pub fn answer(judged: Reading, out: &mut [u8]) -> Reply
+pub fn answer(judged: Result<Pin, Refusal>, out: &mut [u8]) -> Reply
     requires { Roomy judged (length out.old) }
     ensures { Does (quietly (text_of judged)) out.old result out.new }
 {
-    let Reading::Got(offset) = judged else {
-        return Reply::refused(judged.refusal());
-    };
-    offsettexts::put_offset(offset.length, offset.digits, out);
-    Reply::done(12)
+    match judged {
+        Ok(offset) => {
+            offsettexts::put_offset(offset.length, offset.digits, out);
+            Reply::done(12)
+        }
+        Err(q) => Reply::refused(q),
+    }
 }
 
 // Judges the call that makes an offset from a block.
-fn judged_offset(
-    variable: bool,
-    format: u32,
-    check: u32,
-    block: &[u8],
-    account: &[u8],
-    table: &[u8],
-    enciphered: &[u8],
-    room: usize,
-) -> Reading
-    ensures { result ≡ reading_of (offset_judged variable format check block.now account.now table.now enciphered.now room) }
+#[tactic(auto, unfolding(crate::specs::Offsets::offset_judged, crate::specs::Offsets::given))]
+fn judged_offset(variable: bool, inputs: Inputs, room: usize) -> Result<Pin, Refusal>
+    ensures { let i = inputs.entry in
+        result ≡ reading_of (offset_judged variable i.format i.check i.block.now i.account.now i.table.now i.enciphered.now room) }
 {
     if room < 12 {
-        return Reading::Bad(Refusal::Room901);
+        return Err(Refusal::Room901);
     }
-    let fields = taken(format, check, block, account, table, enciphered);
-    let Given::Of(rows) = fields else {
-        return Reading::Bad(Refusal::Field15);
-    };
-    let comparison = paired(format, table, rows);
-    let Comparison::Of(p) = comparison else {
-        return Reading::Bad(comparison.refusal());
-    };
-    offset_for(variable, check, p)
+    let rows = taken(inputs)?;
+    let p = paired(inputs.format, inputs.table, rows)?;
+    offset_for(variable, inputs.check, p)
 }
 
 // Makes an offset from a block.
-pub fn offset(
-    settings: Settings,
-    format: u32,
-    check: u32,
-    block: &[u8],
-    account: &[u8],
-    table: &[u8],
-    enciphered: &[u8],
-    out: &mut [u8],
-) -> Reply
-    ensures { Does (quietly (offset_made settings.variable format check block.now account.now table.now enciphered.now (length out.old))) out.old result out.new }
+pub fn offset(settings: Settings, inputs: Inputs, out: &mut [u8]) -> Reply
+    ensures { let i = inputs.entry in
+        let made = offset_made settings.variable i.format i.check i.block.now i.account.now i.table.now i.enciphered.now (length out.old) in
+        Does (quietly made) out.old result out.new }
 {
-    let judged = judged_offset(
-        settings.variable,
-        format,
-        check,
-        block,
-        account,
-        table,
-        enciphered,
-        out.len(),
-    );
-    answer(judged, out)
+    answer(judged_offset(settings.variable, inputs, out.len()), out)
 }
 
 // Judges the call that makes an offset from digits.
-fn judged_digits(variable: bool, check: u32, pin: &[u8], natural: &[u8], room: usize) -> Reading
+#[tactic(auto, unfolding(crate::specs::Offsets::digits_judged, crate::specs::Offsets::digits_given))]
+fn judged_digits(
+    variable: bool,
+    check: u32,
+    pin: &[u8],
+    natural: &[u8],
+    room: usize,
+) -> Result<Pin, Refusal>
     ensures { result ≡ reading_of (digits_judged variable check pin.now natural.now room) }
 {
     if room < 12 {
-        return Reading::Bad(Refusal::Room901);
+        return Err(Refusal::Room901);
     }
-    let comparison = handed(check, pin, natural);
-    let Comparison::Of(p) = comparison else {
-        return Reading::Bad(comparison.refusal());
-    };
+    let p = handed(check, pin, natural)?;
     offset_for(variable, check, p)
 }
 
@@ -283,11 +222,14 @@ pub fn offset_of_digits(
 ) -> Reply
     ensures { Does (quietly (offset_of_digits settings.variable check pin.now natural.now (length out.old))) out.old result out.new }
 {
-    let judged = judged_digits(settings.variable, check, pin, natural, out.len());
-    answer(judged, out)
+    answer(
+        judged_digits(settings.variable, check, pin, natural, out.len()),
+        out,
+    )
 }
 
 // Gives the differences of digits: 901, 15, the PIN and the natural PIN, 81.
+#[tactic(auto, unfolding(crate::specs::Offsets::differences_of, crate::specs::Offsets::digits_given))]
 pub fn differences(
     settings: Settings,
     check: u32,
@@ -300,15 +242,14 @@ pub fn differences(
     if out.len() < 12 {
         return Reply::refused(Refusal::Room901);
     }
-    let comparison = handed(check, pin, natural);
-    let Comparison::Of(p) = comparison else {
-        return Reply::refused(comparison.refusal());
+    let p = match handed(check, pin, natural) {
+        Ok(p) => p,
+        Err(q) => return Reply::refused(q),
     };
-    let n = p.length;
-    let covering = ibm3624::covering(settings.variable, check as usize, n);
-    let Count::Of(m) = covering else {
-        return Reply::refused(Refusal::Check81);
+    let m = match ibm3624::covering(settings.variable, check as usize, p.length) {
+        Ok(m) => m,
+        Err(q) => return Reply::refused(q),
     };
-    ibm3624::put_differences(m, n, p.pin, p.natural, out);
+    ibm3624::put_differences(m, p.length, p.pin, p.natural, out);
     Reply::done(m as u32)
 }

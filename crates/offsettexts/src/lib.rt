@@ -8,7 +8,7 @@ ghost use Rattle.offsettexts.specs.OffsetTexts.{offset_text, offset_presented};
 
 use alphabet::Class;
 use numbers::Refusal;
-use pins::{Pin, Reading};
+use pins::Pin;
 
 // Writes an offset of m digits as 12 characters, the digits and then F.
 pub fn put_offset(m: usize, digits: u64, out: &mut [u8])
@@ -16,44 +16,34 @@ pub fn put_offset(m: usize, digits: u64, out: &mut [u8])
     ensures { out.new ≡ offset_text (row m digits) ++ drop 12 out.old }
 {
     spelling::put_characters(digits, m, out);
-    let mut i = m;
-    while i < 12 {
-        out[i] = b'F';
-        i += 1;
-    }
+    out[m..12].fill(b'F');
 }
 
-// Whether every character from a place on is F.
-fn only_f(s: &[u8], from: usize) -> bool
-    requires { from ≤ length s.now }
-    ensures { result ≡ every (within 0x46 0x46) (drop from s.now) }
+// Whether every character is F.
+fn only_f(s: &[u8]) -> bool
+    ensures { result ≡ every (within 0x46 0x46) s.now }
 {
-    let mut i = from;
-    while i < s.len() {
-        if s[i] != b'F' {
-            return false;
-        }
-        i += 1;
-    }
-    true
+    s.iter().all(|c| *c == b'F')
 }
 
 // An offset that is presented: 4 to 12 digits, then only F.
-pub fn presented(characters: &[u8]) -> Reading
+#[tactic(auto, using(nibbles::proofs::Runs::leading_le))]
+pub fn presented(characters: &[u8]) -> Result<Pin, Refusal>
     ensures { result ≡ reading_of (offset_presented characters.now) }
 {
     if characters.len() != 12 {
-        return Reading::Bad(Refusal::Field15);
+        return Err(Refusal::Field15);
     }
     let n = spelling::class_end(Class::Digit, characters);
     if n < 4 {
-        return Reading::Bad(Refusal::Field15);
+        return Err(Refusal::Field15);
     }
-    if !only_f(characters, n) {
-        return Reading::Bad(Refusal::Field15);
+    let (digits, fill) = characters.split_at(n);
+    if !only_f(fill) {
+        return Err(Refusal::Field15);
     }
-    Reading::Got(Pin {
+    Ok(Pin {
         length: n,
-        digits: spelling::values(&characters[..n]),
+        digits: spelling::values(digits),
     })
 }

@@ -18,7 +18,7 @@ use Rattle.numbers.specs.declared.Refusal.TheVariants.{Field15, Table25}
 use Rattle.validation.specs.Validation.{shape_of, shape_width, is_validation}
 use Rattle.validation.specs.declared.Shape.{Shape}
 use Rattle.fields.specs.Fields.{read, run, number}
-use Rattle.fields.proofs.Laws.{run_found, number_found}
+use Rattle.fields.proofs.Laws.{run_found, number_found, found_ok, found_err, field_found, field_bad}
 use Rattle.fields.proofs.Reading.{field_read, read_once, inside}
 use Rattle.validationfield.specs.ValidationField.{validation_field}
 use Rattle.validationfield.proofs.Laws.{width_bounds, validation_found, validation_wide}
@@ -79,3 +79,6 @@ module _ (s : List ℕ) (from n : ℕ) (inside : from + n ≤ length s) where
 
   pub values_under : (w : ℕ) → w ≡ word (map value_of (part s from n)) → w < 16 ^ n
   values_under w e = rw e (word_under n (map value_of (part s from n)) values_below (let l = values_length in omega arith))
+
+-- what reading the stage takes
+pub ruleset fields_found = (found_ok, found_err, field_found, field_bad)

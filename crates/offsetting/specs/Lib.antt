@@ -1,2 +1,1 @@
 pub mod Offsetting
-pub mod Answers

@@ -5,6 +5,7 @@ use native.Mathlib.Omega.{arith}
 use mathlib.Core.Path.{◌≡◌, refl, sym, ap, ◌∙◌, subst}
 use mathlib.Core.List.{List, map}
 use mathlib.Core.Bool.{true}
+use Rattle.std.specs.Prelude.{Ok}
 use lib.ListN.{length, length-map}
 use Rattle.nibbles.specs.Nibbles.{word, nibs, row, packs, every}
 use Rattle.nibbles.proofs.Runs.{below_every}
@@ -24,7 +25,6 @@ use Rattle.offsets.specs.Offsets.{pin_with_natural}
 use Rattle.offsets.specs.Answers.{comparison_of, pair_in, rows_in, Fit}
 use Rattle.offsets.specs.declared.Rows.{Rows}
 use Rattle.offsets.specs.declared.Compared.{Compared}
-use Rattle.offsets.specs.declared.Comparison.TheVariants as comparison
 use Rattle.offsets.proofs.Laws.{with_natural_fit, with_natural_compared}
 use Rattle.keybox.specs.declared.Boxed.{Boxed}
 use Rattle.offsetting.specs.Offsetting.{part, account_in, table_in, validation_in}
@@ -110,7 +110,7 @@ module _ (s : List ℕ) (o : Offsetting) (placed : Placed s o) where
 
   -- those that the code has may be compared, and are those of the definition
   pub pair_compared :
-      (b : Sealed) (boxed : Boxed) (c : Compared) → comparison.Of c ≡ comparison_of (pair_at s b o (box_rows boxed)) → Fit c × (pair_at s b o (box_rows boxed) ≡ done (pair_in c))
+      (b : Sealed) (boxed : Boxed) (c : Compared) → Ok c ≡ comparison_of (pair_at s b o (box_rows boxed)) → Fit c × (pair_at s b o (box_rows boxed) ≡ done (pair_in c))
   pair_compared b boxed c e =
       let rows : Rows = record { block = boxed.block; account = word (account_in s o); enciphered = boxed.enciphered } in
       let found = pair_found b rows refl in

@@ -11,12 +11,13 @@ ghost use Rattle.pairing.specs.Pairing.{asked_at, pair_at};
 ghost use Rattle.pairing.specs.Answers.{Placed, box_rows};
 
 use keybox::Boxed;
-use offsets::{Comparison, Rows};
+use numbers::Refusal;
+use offsets::{Compared, Rows};
 use offsetting::Offsetting;
-use pins::Row;
 use sealed::Sealed;
 
-// The account's digits at their place.
+// The account's digits at their place. `Placed` stays a clause of these three: it speaks of the command and the places together, and a type
+// of both would carry the command about.
 fn account_at(command: &[u8], inputs: Offsetting) -> u64
     requires { Placed command.now inputs }
     ensures { result ≡ word (account_in command.now inputs) }
@@ -27,7 +28,7 @@ fn account_at(command: &[u8], inputs: Offsetting) -> u64
 }
 
 // The block that the key box must encipher, of account and validation data.
-pub fn asked(command: &[u8], inputs: Offsetting) -> Row
+pub fn asked(command: &[u8], inputs: Offsetting) -> Result<u64, Refusal>
     requires { Placed command.now inputs }
     ensures { result ≡ block_of (asked_at command.now inputs) }
 {
@@ -49,7 +50,12 @@ pub fn block_row(command: &[u8], sealed: Sealed) -> u64
 }
 
 // The PIN in the block with its natural PIN, through account and table.
-pub fn pair(command: &[u8], sealed: Sealed, inputs: Offsetting, boxed: Boxed) -> Comparison
+pub fn pair(
+    command: &[u8],
+    sealed: Sealed,
+    inputs: Offsetting,
+    boxed: Boxed,
+) -> Result<Compared, Refusal>
     requires { Placed command.now inputs }
     ensures { result ≡ comparison_of (pair_at command.now sealed inputs (box_rows boxed)) }
 {

@@ -1,63 +1,29 @@
 -- What an answer tells of the outcome behind it, and what an outcome tells of the value in it.
 -- Assumes nothing.
-use Prim.Native.Nat.{ℕ, ◌+◌, ◌-◌, ◌^◌, ◌≤◌, ◌<◌}
+use Prim.Native.Nat.{ℕ, ◌-◌, ◌^◌, ◌≤◌, ◌<◌}
 use native.Mathlib.Omega.{arith}
 use mathlib.Core.Path.{◌≡◌, refl, sym, ap, ◌∙◌, subst}
 use mathlib.Core.List.{List, ◌++◌, map, [], ◌∷◌}
-use mathlib.Core.Bool.{true, ◌&&◌}
+use mathlib.Core.Bool.{Bool, true, ◌&&◌}
 use lib.ListN.{length, replicate, length-map}
 use lib.Dec.{eqb, lit<, lit≤}
 use borrow.Author.Tests.{eqb-true}
 use Rattle.nibbles.specs.Nibbles.{nibs, word, row, within, every}
 use Rattle.nibbles.proofs.Lists.{Below, below_weaken, map_below, and_left, and_right}
-use Rattle.nibbles.proofs.Rows.{row_length, row_below, row_word, word_lt, word_under}
+use Rattle.nibbles.proofs.Rows.{row_length, row_below, row_word, word_lt}
 use Rattle.nibbles.proofs.Bytes.{nibs_length, nibs_below}
 use Rattle.nibbles.proofs.Runs.{every_below, inside_low, inside_high}
 use Rattle.alphabet.specs.Alphabet.{admits, all_of, value_of}
 use Rattle.alphabet.proofs.Laws.{value_below, digit_span, digit_low}
 use Rattle.alphabet.specs.declared.Class.TheVariants.{Digit}
 use Rattle.numbers.specs.Numbers.{Outcome, done, refused, and_then}
-use Rattle.numbers.proofs.Laws.{passed, failed, then_done}
+use Rattle.numbers.proofs.Laws.{passed, then_done, result_ok}
 use Rattle.numbers.specs.declared.Refusal.{Refusal}
 use Rattle.numbers.specs.declared.Refusal.TheVariants.{Field15, Block20, Length24}
 use Rattle.pins.specs.Pins.{digit, pin_length, pin_handed, digits_handed, padded, account_of, account_field, sized}
-use Rattle.pins.specs.Answers.{count_of, pin_of, reading_of, row_of, verdict_of, verdict_says}
-use Rattle.pins.specs.declared.Pin.{Pin}
-use Rattle.pins.specs.declared.Count.TheVariants.{Of, Bad}
-use Rattle.pins.specs.declared.Reading.TheVariants as reading
-use Rattle.pins.specs.declared.Reading.TheVariants.{Got}
-use Rattle.pins.specs.declared.Row.{Row}
-use Rattle.pins.specs.declared.Row.TheVariants.{Held, Refused}
-
--- ---- behind a count
-
-pub count_of_lem : (o : Outcome ℕ) (n : ℕ) → Of n ≡ count_of o → o ≡ done n
-count_of_lem (done m) n e = cc
-count_of_lem (refused q) n e = absurd (let z : ◌≡◌ {A = ℕ} 0 1 = cc in omega arith)
-
-pub count_bad : (o : Outcome ℕ) (q : Refusal) → Bad q ≡ count_of o → o ≡ refused q
-count_bad (done m) q e = absurd (let z : ◌≡◌ {A = ℕ} 0 1 = cc in omega arith)
-count_bad (refused p) q e = cc
-
--- ---- behind a row
-
-pub row_held : (o : Outcome (List ℕ)) (w : ℕ) → Held w ≡ row_of o → (ns : List ℕ) × (o ≡ done ns) × (w ≡ word ns)
-row_held (done ns) w e = (ns, refl, cc)
-row_held (refused q) w e = absurd (let z : ◌≡◌ {A = ℕ} 0 1 = cc in omega arith)
-
-pub row_refused : (o : Outcome (List ℕ)) (q : Refusal) → Refused q ≡ row_of o → o ≡ refused q
-row_refused (done ns) q e = absurd (let z : ◌≡◌ {A = ℕ} 0 1 = cc in omega arith)
-row_refused (refused p) q e = cc
-
--- ---- behind a PIN
-
-pub reading_got : (o : Outcome (List ℕ)) (p : Pin) → Got p ≡ reading_of o → (ds : List ℕ) × (o ≡ done ds) × (p ≡ pin_of ds)
-reading_got (done ds) p e = (ds, refl, cc)
-reading_got (refused q) p e = absurd (let z : ◌≡◌ {A = ℕ} 0 1 = cc in omega arith)
-
-pub reading_bad : (o : Outcome (List ℕ)) (q : Refusal) → reading.Bad q ≡ reading_of o → o ≡ refused q
-reading_bad (done ds) q e = absurd (let z : ◌≡◌ {A = ℕ} 0 1 = cc in omega arith)
-reading_bad (refused p) q e = cc
+use Rattle.pins.specs.Answers.{row_of}
+use Rattle.std.specs.Prelude.{Result, Ok}
+use Rattle.std.specs.List.{list_all}
 
 -- ---- what a judgement that passed tells
 
@@ -108,9 +74,6 @@ account_row cs ds a e h =
 pub account_field_lem : (cs ds : List ℕ) (a w : ℕ) → account_of cs ≡ done ds → a ≡ word ds → w ≡ word (account_field (row 12 a)) → row 16 w ≡ account_field ds
 account_field_lem cs ds a w e h k = field_row a w k ∙ ap account_field (account_row cs ds a e h)
 
-pub account_under : (cs ds : List ℕ) (a : ℕ) → account_of cs ≡ done ds → a ≡ word ds → a < 16 ^ 12
-account_under cs ds a e h = let d = account_done cs ds e in rw h (word_under 12 ds d.1 (omega (arith, d.0)))
-
 pub block_row : (bs ns : List ℕ) (w : ℕ) → sized 8 bs ≡ done ns → Below 256 bs → w ≡ word ns → row 16 w ≡ ns
 block_row bs ns w e b h =
     let s = sized_done 8 bs ns e in
@@ -126,23 +89,16 @@ pin_under ds p = word_lt ds (below_weaken 10 16 ds (lit≤ tt) p.digits)
 
 -- ---- an answer taken apart
 
-module _ (width : ℕ) (bs : List ℕ) (r : Row) (e : r ≡ row_of (sized width bs)) where
-  pub sized_held : (v : ℕ) → r ≡ Held v → (sized width bs ≡ done (nibs bs)) × (v ≡ word (nibs bs))
+module _ (width : ℕ) (bs : List ℕ) (r : Result ℕ Refusal) (e : r ≡ row_of (sized width bs)) where
+  pub sized_held : (v : ℕ) → r ≡ Ok v → (sized width bs ≡ done (nibs bs)) × (v ≡ word (nibs bs))
   sized_held v h =
-      let t = row_held (sized width bs) v (sym h ∙ e) in
+      let t = result_ok word (sized width bs) v (sym h ∙ e) in
       let s : nibs bs ≡ t.0 = (sized_done width bs t.0 t.1).1 in
       (t.1 ∙ ap done (sym s), t.2 ∙ ap word (sym s))
 
-  pub sized_not : (q : Refusal) → r ≡ Refused q → sized width bs ≡ refused Field15
-  sized_not q h = (failed Field15 q (eqb (length bs) width) (nibs bs) (row_refused (sized width bs) q (sym h ∙ e))).1
-
-module _ (cs : List ℕ) (r : Row) (e : r ≡ row_of (account_of cs)) where
-  pub account_held : (v : ℕ) → r ≡ Held v → (ds : List ℕ) × (account_of cs ≡ done ds) × (v ≡ word ds)
-  account_held v h = row_held (account_of cs) v (sym h ∙ e)
-
-  pub account_not : (q : Refusal) → r ≡ Refused q → account_of cs ≡ refused Field15
-  account_not q h =
-      (failed Field15 q (eqb (length cs) 12 && all_of Digit cs) (padded (map value_of cs)) (row_refused (account_of cs) q (sym h ∙ e))).1
+module _ (cs : List ℕ) (r : Result ℕ Refusal) (e : r ≡ row_of (account_of cs)) where
+  pub account_held : (v : ℕ) → r ≡ Ok v → (ds : List ℕ) × (account_of cs ≡ done ds) × (v ≡ word ds)
+  account_held v h = result_ok word (account_of cs) v (sym h ∙ e)
 
 -- ---- digits
 
@@ -155,12 +111,11 @@ unfolding all_of
 digits_below [] e = tt
 digits_below (c ∷ cs) e = (digit_value c (and_left (admits Digit c) (all_of Digit cs) e), digits_below cs (and_right (admits Digit c) (all_of Digit cs) e))
 
--- ---- the outcome behind a verdict
-
--- where 00 writes nothing, the verdict says what was judged
-pub verdict_said : (o : Outcome (List ℕ)) → ((ws : List ℕ) → o ≡ done ws → ws ≡ []) → verdict_says (verdict_of o) ≡ o
-verdict_said (done ws) nothing = ap done (sym (nothing ws refl))
-verdict_said (refused q) nothing = refl
+-- std's word for a test that every one passes is the definitions'
+pub every_one : (p : ℕ → Bool) (xs : List ℕ) → list_all p xs ≡ every p xs
+unfolding every
+every_one p [] = refl
+every_one p (x ∷ xs) = ap (λ b. p x && b) (every_one p xs)
 
 -- ---- a chain in parts
 

@@ -1,5 +1,6 @@
 -- A reader takes no more characters than are ahead.
 -- Assumes nothing.
+use Rattle.std.specs.Prelude.{Option, None}
 use Prim.Native.Nat.{ℕ, ◌-◌, ◌≤◌}
 use native.Mathlib.Omega.{arith}
 use mathlib.Core.Path.{◌≡◌, refl, ap}
@@ -20,8 +21,6 @@ use Rattle.codes.specs.Codes.{code_of, format_of}
 use Rattle.fields.specs.Fields.{Found, run, number, marked, behind, trailer, at_most}
 use Rattle.fields.proofs.Laws.{run_found, number_found}
 use Rattle.fields.proofs.Reading.{behind_done}
-use Rattle.lmk.specs.declared.Lmk.{Lmk}
-use Rattle.lmk.specs.declared.Lmk.TheVariants.{Absent}
 use Rattle.uses.specs.declared.Use.{Use}
 use Rattle.keylengths.proofs.Laws.{length_found}
 use Rattle.keyblocks.specs.KeyBlocks.{key_block}
@@ -84,8 +83,8 @@ type_takes cs =
 hex_takes : (n : ℕ) → Takes (hex_key n)
 unfolding hex_key
 hex_takes n cs l m e =
-    let t = then_done (run CapitalHex Field15 Field15 n cs) (λ (r : ℕ × ℕ). done (Absent, r.1)) (l, m) e in
-    let k : t.0.1 ≡ m = ap (λ (x : Lmk × ℕ). x.1) (value_of_lem t.2) in
+    let t = then_done (run CapitalHex Field15 Field15 n cs) (λ (r : ℕ × ℕ). done (None, r.1)) (l, m) e in
+    let k : t.0.1 ≡ m = ap (λ (x : (Option ℕ) × ℕ). x.1) (value_of_lem t.2) in
     omega (arith, run_takes CapitalHex Field15 Field15 n cs t.0.0 t.0.1 t.1)
 
 block_takes : (for : Use) → Takes (key_block for)
@@ -106,7 +105,7 @@ key_takes letters for cs =
     (λ _. allowed (letters.bare && admits CapitalHex (get_or cs 0 0)) _ (hex_takes 32 cs)))))
     (λ _. none_found (length cs) Field15)
   where
-    allowed : {most : ℕ} (admitted : Bool) (o : Found Lmk) → AtMost most o → AtMost most (cond admitted o (refused Key26))
+    allowed : {most : ℕ} (admitted : Bool) (o : Found (Option ℕ)) → AtMost most o → AtMost most (cond admitted o (refused Key26))
     allowed {most} admitted o f = either_way most admitted o (refused Key26) (λ _. f) (λ _. none_found most Key26)
 
 pub format_takes : (restricted : Bool) → Takes (format_field restricted)

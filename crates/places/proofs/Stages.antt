@@ -1,5 +1,6 @@
 -- A stage goes on in the command, and its fault points into it.
 -- Assumes nothing.
+use Rattle.std.specs.Prelude.{Option}
 use Prim.Native.Nat.{ℕ, ◌+◌, ◌≤◌}
 use native.Mathlib.Omega.{arith}
 use mathlib.Core.Path.{◌≡◌, refl}
@@ -13,7 +14,6 @@ use Rattle.numbers.specs.declared.Refusal.TheVariants.{Field15, Table25}
 use Rattle.fields.specs.Fields.{Found, Stage, read, faulty, field, fielded, onward, run, number, trailer}
 use Rattle.fields.proofs.Reading.{inside_from}
 use Rattle.lmk.specs.Lmk.{lmk_field, present}
-use Rattle.lmk.specs.declared.Lmk.{Lmk}
 use Rattle.lmk.proofs.Laws.{lmk_onward}
 use Rattle.uses.specs.Uses.{pin_key, pvk, verifying_pvk}
 use Rattle.uses.specs.declared.Use.{Use}
@@ -100,7 +100,7 @@ module _ (s : List ℕ) where
   unfolding weak
   weak_stays mark at l = field_stays Any 10 at (weak_field mark at) _ (omega arith) l (λ cs w n e. weak_onward mark at cs w n e) (λ _ past l₂. (l₂, tt))
 
-  closed_stays : (ks : Keys) (own : Lmk) (at mark past : ℕ) → SecondIn s ks → at ≤ length s → past ≤ length s → StaysIn s Any (closed ks own 11 at s mark past)
+  closed_stays : (ks : Keys) (own : Option ℕ) (at mark past : ℕ) → SecondIn s ks → at ≤ length s → past ≤ length s → StaysIn s Any (closed ks own 11 at s mark past)
   closed_stays ks own at mark past h l m = by_rest (leb (length s) past)
     where
       by_last : (there : Bool) → Points s (cond there (record { refusal = Field15; field = 11; place = at }) (record { refusal = Field15; field = ks.field; place = ks.place }))

@@ -8,7 +8,7 @@ use mathlib.Core.Bool.{◌&&◌}
 use lib.ListN.{length, take, length-map, length-append, length-drop}
 use lib.Seq.{length-take-le}
 use lib.Dec.{leb, eqb, lit≤}
-use borrow.Author.Tests.{leb-true, le-leb, lt-leb, eqb-true}
+use borrow.Author.Tests.{leb-true, le-leb, eqb-true}
 use Rattle.nibbles.specs.Nibbles.{row, word, nibs, packs, same}
 use Rattle.nibbles.proofs.Lists.{Below, below_drop, below_take, below_weaken, map_below, and_left, below_append}
 use Rattle.nibbles.proofs.Rows.{row_word, word_under}
@@ -16,16 +16,13 @@ use Rattle.nibbles.proofs.Bytes.{nibs_length}
 use Rattle.alphabet.specs.Alphabet.{all_of, value_of, characters}
 use Rattle.alphabet.specs.declared.Class.TheVariants.{Digit}
 use Rattle.alphabet.proofs.Laws.{value_below}
-use Rattle.numbers.specs.Numbers.{Outcome, done, refused, unless, and_then}
+use Rattle.numbers.specs.Numbers.{Outcome, done, unless, and_then}
 use Rattle.numbers.specs.declared.Refusal.{Refusal}
 use Rattle.numbers.specs.declared.Refusal.TheVariants.{Unverified01, Field15, Room901}
-use Rattle.numbers.proofs.Laws.{then_done, passed, failed, value_of_lem}
+use Rattle.numbers.proofs.Laws.{then_done, passed, value_of_lem, result_ok}
 use Rattle.codes.specs.Codes.{code_of, format_of}
 use Rattle.pins.specs.Pins.{last_of, account_of, account_field, sized, verdict}
-use Rattle.pins.specs.Answers.{row_of}
-use Rattle.pins.specs.declared.Row.{Row}
-use Rattle.pins.specs.declared.Row.TheVariants.{Held, Refused}
-use Rattle.pins.proofs.Laws.{through, then_alike, Pinned, sized_done, account_done, account_under, account_row, block_row, row_held, row_refused}
+use Rattle.pins.proofs.Laws.{through, then_alike, Pinned, sized_done, account_done, account_row, block_row}
 use Rattle.answers.proofs.Laws.{Blocky, Sixteen}
 use Rattle.blocks.proofs.Laws.{read_pinned}
 use Rattle.pvvdigits.specs.PvvDigits.{pvv_of}
@@ -34,8 +31,7 @@ use Rattle.pvvinput.proofs.Laws.{index_small}
 use Rattle.pvv.specs.Pvv.{presented, pvv_given, pin_read, pvv_input, pvv_made, pvv_verdict}
 use Rattle.pvv.specs.Answers.{rows_of, given_of, rows_in}
 use Rattle.pvv.specs.declared.Rows.{Rows}
-use Rattle.pvv.specs.declared.Given.{Given}
-use Rattle.pvv.specs.declared.Given.TheVariants as fields
+use Rattle.std.specs.Prelude.{Result, Ok}
 
 -- ---- the input
 
@@ -58,31 +54,18 @@ given_each code index block account g e =
     let i = then_done (key_index index) _ g k.2 in
     subst (λ (h : List ℕ × List ℕ × ℕ). (sized 8 block ≡ done h.0) × (account_of account ≡ done h.1) × (key_index index ≡ done h.2)) (value_of_lem i.2) (s.1, k.1, i.1)
 
-given_of_lem : (o : Outcome (List ℕ × List ℕ × ℕ)) (r : Rows) → fields.Of r ≡ given_of o → (g : List ℕ × List ℕ × ℕ) × (o ≡ done g) × (r ≡ rows_of g)
-given_of_lem (done g) r e = (g, refl, cc)
-given_of_lem (refused q) r e = absurd (let z : ◌≡◌ {A = ℕ} 0 1 = cc in omega arith)
-
-given_bad : (o : Outcome (List ℕ × List ℕ × ℕ)) (q : Refusal) → fields.Bad q ≡ given_of o → o ≡ refused q
-given_bad (done g) q e = absurd (let z : ◌≡◌ {A = ℕ} 0 1 = cc in omega arith)
-given_bad (refused p) q e = cc
-
 -- what the answer tells of the fields
-module _ (code index : ℕ) (block account : List ℕ) (given : Given) (e : given ≡ given_of (pvv_given code index block account)) where
-  pub fields_of : Below 256 block → (r : Rows) → given ≡ fields.Of r → (pvv_given code index block account ≡ done (rows_in r)) × (r.account < 16 ^ 12) × (r.index ≤ 6)
+module _ (code index : ℕ) (block account : List ℕ) (given : Result Rows Refusal) (e : given ≡ given_of (pvv_given code index block account)) where
+  pub fields_of : Below 256 block → (r : Rows) → given ≡ Ok r → (pvv_given code index block account ≡ done (rows_in r)) × (r.index ≤ 6)
   fields_of b r h =
-      let t = given_of_lem (pvv_given code index block account) r (sym h ∙ e) in
+      let t = result_ok rows_of (pvv_given code index block account) r (sym h ∙ e) in
       let f = given_each code index block account t.0 t.1 in
-      let digits = ap (λ (x : Rows). x.account) t.2 in
       let k = ap (λ (x : Rows). x.index) t.2 in
       let ns = block_row block t.0.0 r.block f.0 b (ap (λ (x : Rows). x.block) t.2) in
-      let ds = account_row account t.0.1 r.account f.1 digits in (
+      let ds = account_row account t.0.1 r.account f.1 (ap (λ (x : Rows). x.account) t.2) in (
         t.1 ∙ (λ i. done (sym ns i, sym ds i, sym k i)),
-        account_under account t.0.1 r.account f.1 digits,
         subst (λ (m : ℕ). m ≤ 6) (sym k) (index_small index t.0.2 f.2),
       )
-
-  pub fields_bad : (q : Refusal) → given ≡ fields.Bad q → pvv_given code index block account ≡ refused q
-  fields_bad q h = given_bad (pvv_given code index block account) q (sym h ∙ e)
 
 -- ---- the calls' chains in parts
 
@@ -140,24 +123,12 @@ call_input code index block account room bs e =
       ),
     )
 
--- ---- the outcome behind a row
-
-module _ (o : Outcome (List ℕ)) (r : Row) (e : r ≡ row_of o) where
-  pub behind_held : (v : ℕ) → r ≡ Held v → (ns : List ℕ) × (o ≡ done ns) × (v ≡ word ns)
-  behind_held v h = row_held o v (sym h ∙ e)
-
-  pub behind_refused : (q : Refusal) → r ≡ Refused q → o ≡ refused q
-  behind_refused q h = row_refused o q (sym h ∙ e)
-
 -- ---- the verdict
 
 pub presented_done : (cs ps : List ℕ) → presented cs ≡ done ps → (length ps ≡ 4) × Below 16 ps
 presented_done cs ps e =
     let p = passed Field15 (eqb (length cs) 4 && all_of Digit cs) (map value_of cs) ps e in
     (ap length (sym p.1) ∙ length-map cs value_of ∙ eqb-true (length cs) 4 (and_left (eqb (length cs) 4) (all_of Digit cs) p.0), rw (← p.1) (map_below 16 value_of value_below cs))
-
-pub presented_not : (cs : List ℕ) (q : Refusal) → presented cs ≡ refused q → presented cs ≡ refused Field15
-presented_not cs q e = (failed Field15 q (eqb (length cs) 4 && all_of Digit cs) (map value_of cs) e).1
 
 pub presented_row : (cs ps : List ℕ) (v : ℕ) → presented cs ≡ done ps → v ≡ word ps → (row 4 v ≡ ps) × (v < 16 ^ 4)
 presented_row cs ps v e h =
@@ -176,14 +147,6 @@ verdict_nothing code index block account enciphered pvv ws e =
 -- ---- the call that makes the PVV
 
 module _ (enciphered : List ℕ) (room : ℕ) where
-  pub room_short : room < 4 → pvv_made enciphered room ≡ refused Room901
-  unfolding pvv_made
-  room_short h = rw (lt-leb 4 room h)
-
-  pub input_long : 4 ≤ room → sized 8 enciphered ≡ refused Field15 → pvv_made enciphered room ≡ refused Field15
-  unfolding pvv_made
-  input_long h e = rw (le-leb 4 room h, e)
-
   pub made_done : 4 ≤ room → sized 8 enciphered ≡ done (nibs enciphered) → pvv_made enciphered room ≡ done (characters (pvv_of (nibs enciphered)))
   unfolding pvv_made
   made_done h e = rw (le-leb 4 room h, e)

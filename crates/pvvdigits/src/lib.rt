@@ -4,13 +4,14 @@
 ghost use Rattle.std.specs.Prelude.{◌≡◌, [], ◌∷◌, ◌++◌, map, ◌-◌, ◌^◌, ◌<◌, ◌≤◌, length, take};
 ghost use Rattle.nibbles.specs.Nibbles.{word, row, within, same};
 ghost use Rattle.pins.specs.Pins.{verdict};
-ghost use Rattle.pins.specs.Answers.{pin_of, verdict_of};
+ghost use Rattle.numbers.specs.Answers.{verdict_of};
+ghost use Rattle.pins.specs.Answers.{pin_of};
 ghost use Rattle.answers.specs.Answers.{digits_of};
 ghost use Rattle.pvvdigits.specs.PvvDigits.{those, pvv_of};
 ghost use Rattle.pvvdigits.specs.Answers.{Taken};
 
 use numbers::Refusal;
-use pins::{Pin, Verdict};
+use pins::Pin;
 
 // One nibble more: it goes behind what was taken, less `less`, where it is from low to high and there are not four yet.
 fn step(taken: Pin, n: u64, low: u64, high: u64, less: u64) -> Pin
@@ -38,10 +39,8 @@ fn scan(enciphered: u64, low: u64, high: u64, less: u64, before: Pin) -> Pin
     ensures { result ≡ pin_of (take 4 (digits_of before ++ map (λ m. m - less) (those (within low high) (row 16 enciphered)))) }
 {
     let mut taken = before;
-    let mut i: usize = 0;
-    while i < 16 {
+    for i in 0..16 {
         taken = step(taken, nibbles::nibble(enciphered, i), low, high, less);
-        i += 1;
     }
     taken
 }
@@ -60,12 +59,12 @@ pub fn digits_of(enciphered: u64) -> u64
 }
 
 // The verdict on four digits that are presented.
-pub fn compared(enciphered: u64, shown: u64) -> Verdict
+pub fn compared(enciphered: u64, shown: u64) -> Result<(), Refusal>
     requires { shown < 16 ^ 4 }
     ensures { result ≡ verdict_of (verdict (same (pvv_of (row 16 enciphered)) (row 4 shown))) }
 {
     if digits_of(enciphered) != shown {
-        return Verdict::Refused(Refusal::Unverified01);
+        return Err(Refusal::Unverified01);
     }
-    Verdict::Verified
+    Ok(())
 }

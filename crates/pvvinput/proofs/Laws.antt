@@ -1,13 +1,12 @@
--- The input's row, and the test on its index.
+-- The input's row, and its index.
 -- Assumes nothing.
 use Prim.Native.Nat.{ℕ, ◌+◌, ◌-◌, ◌*◌, ◌/◌, ◌^◌, ◌≤◌, ◌<◌}
 use mathlib.Core.Path.{◌≡◌, sym, ap, ap₂, ◌∙◌, subst}
 use mathlib.Core.List.{List, ◌∷◌, ◌++◌}
-use mathlib.Core.Bool.{Bool, true, false, not}
 use lib.ListN.{length, take, drop, length-drop}
 use lib.Seq.{slice}
 use lib.Dec.{leb, lit≤}
-use borrow.Author.Tests.{leb-true, not-true, not-false}
+use borrow.Author.Tests.{leb-true}
 use Rattle.nibbles.specs.Nibbles.{row, word}
 use Rattle.nibbles.proofs.Rows.{row_length, row_below, row_take, row_part, word_under, word_append}
 use Rattle.numbers.specs.Numbers.{done}
@@ -36,12 +35,6 @@ input_pin account ds index p =
     ap (λ (l : List ℕ). last_of 11 account ++ (index ∷ l))
     (row_take 4 16 (word ds) (lit≤ tt) ∙ sym (row_take 4 (length ds) (word ds) p.long) ∙ ap (take 4) (pin_row ds p))
 
--- the test on the key index
-pub an_index : (index : ℕ) (r : Bool) → r ≡ leb index 6 → not r ≡ false → leb index 6 ≡ true
-an_index index r e h = sym e ∙ not-false r h
-
-pub no_index : (index : ℕ) (r : Bool) → r ≡ leb index 6 → not r ≡ true → leb index 6 ≡ false
-no_index index r e h = sym e ∙ not-true r h
-
+-- the key index is small
 pub index_small : (index k : ℕ) → key_index index ≡ done k → k ≤ 6
 index_small index k e = let j = passed Field15 (leb index 6) index k e in subst (λ (m : ℕ). m ≤ 6) j.1 (leb-true index 6 j.0)

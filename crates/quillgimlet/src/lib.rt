@@ -1,6 +1,6 @@
 // The C face: what the classroom server links. Each call hands its numbers and byte runs on, and keeps its callee's promise; beside it
 // stands what its reply points at.
-#![tactic(auto)]
+#![tactic(auto, using(face::proofs::Laws::faced))]
 
 ghost use Rattle.std.specs.Prelude.{◌≡◌, []};
 ghost use lib.ListN.{length};
@@ -22,30 +22,27 @@ ghost use Rattle.face.specs.Face.{yes?, settings_of, face_of, flag_of, reply_in,
 
 use ciphers::Way;
 use face::{FaceReply, FaceSettings};
+use keybox::BoxAnswers;
+use offsets::Inputs;
 use settings::Settings;
 
 pub fn qg_usual() -> FaceSettings
     ensures { result ≡ face_of usually }
 {
-    let usual = Settings::usual();
-    FaceSettings {
-        header: usual.header,
-        restricted: face::flag(usual.restricted),
-        variable: face::flag(usual.variable),
-    }
+    FaceSettings::from(Settings::usual())
 }
 
 pub fn qg_ask(settings: FaceSettings, command: &[u8], out: &mut [u8]) -> FaceReply
     ensures { Does (quietly (asked (settings_of settings) command.now (length out.old))) out.old (reply_in result) out.new × (pointer_in result ≡ shown (asking (settings_of settings) command.now (length out.old))) }
 {
-    let told = commands::ask(face::inner(settings), command, out);
+    let told = commands::ask(Settings::from(settings), command, out);
     face::wide(told.reply, told.pointer)
 }
 
 pub fn qg_pin_block(settings: FaceSettings, command: &[u8], out: &mut [u8]) -> FaceReply
     ensures { Does (quietly (extracted (settings_of settings) command.now (length out.old))) out.old (reply_in result) out.new × (pointer_in result ≡ shown (extracting (settings_of settings) command.now (length out.old))) }
 {
-    let told = commands::pin_block(face::inner(settings), command, out);
+    let told = commands::pin_block(Settings::from(settings), command, out);
     face::wide(told.reply, told.pointer)
 }
 
@@ -60,22 +57,20 @@ pub fn qg_answer(
 ) -> FaceReply
     ensures { Does (answered (settings_of settings) (yes? pinparity) (yes? pvkparity) command.now block.now enciphered.now (length out.old)) out.old (reply_in result) out.new × (pointer_in result ≡ shown (replying (settings_of settings) (yes? pinparity) (yes? pvkparity) command.now block.now enciphered.now (length out.old))) }
 {
-    let told = commands::answer(
-        face::inner(settings),
-        pinparity != 0,
-        pvkparity != 0,
-        command,
+    let answers = BoxAnswers {
+        pinparity: pinparity != 0,
+        pvkparity: pvkparity != 0,
         block,
         enciphered,
-        out,
-    );
+    };
+    let told = commands::answer(Settings::from(settings), answers, command, out);
     face::wide(told.reply, told.pointer)
 }
 
 pub fn qg_read_block(format: u32, block: &[u8], account: &[u8], out: &mut [u8]) -> FaceReply
     ensures { Does (quietly (read_block format block.now account.now (length out.old))) out.old (reply_in result) out.new × (pointer_in result ≡ nowhere) }
 {
-    face::plain(blockcalls::read_block(format, block, account, out))
+    FaceReply::from(blockcalls::read_block(format, block, account, out))
 }
 
 pub fn qg_write_block(
@@ -87,7 +82,7 @@ pub fn qg_write_block(
 ) -> FaceReply
     ensures { Does (quietly (write_block format pin.now account.now fill.now (length out.old))) out.old (reply_in result) out.new × (pointer_in result ≡ nowhere) }
 {
-    face::plain(blockcalls::write_block(format, pin, account, fill, out))
+    FaceReply::from(blockcalls::write_block(format, pin, account, fill, out))
 }
 
 pub fn qg_translate(
@@ -101,19 +96,27 @@ pub fn qg_translate(
 ) -> FaceReply
     ensures { Does (quietly (translate_block (yes? settings.restricted) from to block.now account.now fill.now (length out.old))) out.old (reply_in result) out.new × (pointer_in result ≡ nowhere) }
 {
-    face::plain(translation::translate(face::inner(settings), from, to, block, account, fill, out))
+    FaceReply::from(translation::translate(
+        Settings::from(settings),
+        from,
+        to,
+        block,
+        account,
+        fill,
+        out,
+    ))
 }
 
 pub fn qg_validation_block(validation: &[u8], account: &[u8], out: &mut [u8]) -> FaceReply
     ensures { Does (quietly (validation_block validation.now account.now (lib.ListN.length out.old))) out.old (reply_in result) out.new × (pointer_in result ≡ nowhere) }
 {
-    face::plain(validation::validation_block(validation, account, out))
+    FaceReply::from(validation::validation_block(validation, account, out))
 }
 
 pub fn qg_natural_pin(length: u32, table: &[u8], enciphered: &[u8], out: &mut [u8]) -> FaceReply
     ensures { Does (quietly (natural_pin length table.now enciphered.now (lib.ListN.length out.old))) out.old (reply_in result) out.new × (pointer_in result ≡ nowhere) }
 {
-    face::plain(naturals::natural_pin(length, table, enciphered, out))
+    FaceReply::from(naturals::natural_pin(length, table, enciphered, out))
 }
 
 pub fn qg_offset(
@@ -128,16 +131,15 @@ pub fn qg_offset(
 ) -> FaceReply
     ensures { Does (quietly (offset_made (yes? settings.variable) format check block.now account.now table.now enciphered.now (lib.ListN.length out.old))) out.old (reply_in result) out.new × (pointer_in result ≡ nowhere) }
 {
-    face::plain(offsets::offset(
-        face::inner(settings),
+    let inputs = Inputs {
         format,
         check,
         block,
         account,
         table,
         enciphered,
-        out,
-    ))
+    };
+    FaceReply::from(offsets::offset(Settings::from(settings), inputs, out))
 }
 
 pub fn qg_offset_of_digits(
@@ -149,7 +151,7 @@ pub fn qg_offset_of_digits(
 ) -> FaceReply
     ensures { Does (quietly (offset_of_digits (yes? settings.variable) check pin.now natural.now (lib.ListN.length out.old))) out.old (reply_in result) out.new × (pointer_in result ≡ nowhere) }
 {
-    face::plain(offsets::offset_of_digits(face::inner(settings), check, pin, natural, out))
+    FaceReply::from(offsets::offset_of_digits(Settings::from(settings), check, pin, natural, out))
 }
 
 pub fn qg_differences(
@@ -161,7 +163,7 @@ pub fn qg_differences(
 ) -> FaceReply
     ensures { Does (quietly (differences_of (yes? settings.variable) check pin.now natural.now (lib.ListN.length out.old))) out.old (reply_in result) out.new × (pointer_in result ≡ nowhere) }
 {
-    face::plain(offsets::differences(face::inner(settings), check, pin, natural, out))
+    FaceReply::from(offsets::differences(Settings::from(settings), check, pin, natural, out))
 }
 
 pub fn qg_offset_verdict(
@@ -176,16 +178,15 @@ pub fn qg_offset_verdict(
 ) -> FaceReply
     ensures { Does (quietly (offset_verdict (yes? settings.variable) format check block.now account.now table.now enciphered.now offset.now)) [] (reply_in result) [] × (pointer_in result ≡ nowhere) }
 {
-    face::plain(verdicts::offset_verdict(
-        face::inner(settings),
+    let inputs = Inputs {
         format,
         check,
         block,
         account,
         table,
         enciphered,
-        offset,
-    ))
+    };
+    FaceReply::from(verdicts::offset_verdict(Settings::from(settings), inputs, offset))
 }
 
 pub fn qg_pvv_input(
@@ -197,13 +198,13 @@ pub fn qg_pvv_input(
 ) -> FaceReply
     ensures { Does (quietly (pvv_input format index block.now account.now (lib.ListN.length out.old))) out.old (reply_in result) out.new × (pointer_in result ≡ nowhere) }
 {
-    face::plain(pvv::pvv_input(format, index, block, account, out))
+    FaceReply::from(pvv::pvv_input(format, index, block, account, out))
 }
 
 pub fn qg_pvv(enciphered: &[u8], out: &mut [u8]) -> FaceReply
     ensures { Does (quietly (pvv_made enciphered.now (lib.ListN.length out.old))) out.old (reply_in result) out.new × (pointer_in result ≡ nowhere) }
 {
-    face::plain(pvv::pvv(enciphered, out))
+    FaceReply::from(pvv::pvv(enciphered, out))
 }
 
 pub fn qg_pvv_verdict(
@@ -216,45 +217,45 @@ pub fn qg_pvv_verdict(
 ) -> FaceReply
     ensures { Does (quietly (pvv_verdict format index block.now account.now enciphered.now pvv.now)) [] (reply_in result) [] × (pointer_in result ≡ nowhere) }
 {
-    face::plain(pvv::pvv_verdict(format, index, block, account, enciphered, pvv))
+    FaceReply::from(pvv::pvv_verdict(format, index, block, account, enciphered, pvv))
 }
 
-// ---- the lab: clear keys, and no key box
+// ---- the lab: clear keys, and no key box. C has a name for each way, and so two calls of one function.
 
 pub fn qg_des_encipher(key: &[u8], block: &[u8], out: &mut [u8]) -> FaceReply
     ensures { Does (quietly (des_call Way.Encipher key.now block.now (length out.old))) out.old (reply_in result) out.new × (pointer_in result ≡ nowhere) }
 {
-    face::plain(ciphercalls::des(Way::Encipher, key, block, out))
+    FaceReply::from(ciphercalls::des(Way::Encipher, key, block, out))
 }
 
 pub fn qg_des_decipher(key: &[u8], block: &[u8], out: &mut [u8]) -> FaceReply
     ensures { Does (quietly (des_call Way.Decipher key.now block.now (length out.old))) out.old (reply_in result) out.new × (pointer_in result ≡ nowhere) }
 {
-    face::plain(ciphercalls::des(Way::Decipher, key, block, out))
+    FaceReply::from(ciphercalls::des(Way::Decipher, key, block, out))
 }
 
 pub fn qg_tdes_encipher(key: &[u8], block: &[u8], out: &mut [u8]) -> FaceReply
     ensures { Does (quietly (triple_call Way.Encipher key.now block.now (length out.old))) out.old (reply_in result) out.new × (pointer_in result ≡ nowhere) }
 {
-    face::plain(ciphercalls::triple(Way::Encipher, key, block, out))
+    FaceReply::from(ciphercalls::triple(Way::Encipher, key, block, out))
 }
 
 pub fn qg_tdes_decipher(key: &[u8], block: &[u8], out: &mut [u8]) -> FaceReply
     ensures { Does (quietly (triple_call Way.Decipher key.now block.now (length out.old))) out.old (reply_in result) out.new × (pointer_in result ≡ nowhere) }
 {
-    face::plain(ciphercalls::triple(Way::Decipher, key, block, out))
+    FaceReply::from(ciphercalls::triple(Way::Decipher, key, block, out))
 }
 
 pub fn qg_key_check(key: &[u8], out: &mut [u8]) -> FaceReply
     ensures { Does (quietly (key_check key.now (length out.old))) out.old (reply_in result) out.new × (pointer_in result ≡ nowhere) }
 {
-    face::plain(ciphercalls::key_check(key, out))
+    FaceReply::from(ciphercalls::key_check(key, out))
 }
 
 pub fn qg_odd_parity(key: &[u8]) -> u8
     ensures { result ≡ flag_of (odd_parity key.now) }
 {
-    face::flag(parity::odd_parity(key))
+    u8::from(parity::odd_parity(key))
 }
 
 pub fn qg_lab_answer(
@@ -266,6 +267,6 @@ pub fn qg_lab_answer(
 ) -> FaceReply
     ensures { Does (lab_answered (settings_of settings) command.now pinkey.now pvk.now (length out.old)) out.old (reply_in result) out.new × (pointer_in result ≡ shown (lab_replying (settings_of settings) command.now pinkey.now pvk.now (length out.old))) }
 {
-    let told = lab::answer(face::inner(settings), command, pinkey, pvk, out);
+    let told = lab::answer(Settings::from(settings), command, pinkey, pvk, out);
     face::wide(told.reply, told.pointer)
 }

@@ -4,6 +4,7 @@ use Prim.Native.Nat.{ℕ, ◌+◌, ◌-◌, ◌≤◌}
 use native.Mathlib.Omega.{arith}
 use mathlib.Core.Path.{◌≡◌, refl, sym, ap, ap₂, ◌∙◌, subst}
 use mathlib.Core.List.{List, ◌++◌, append_assoc}
+use Rattle.std.specs.Prelude.{Ok, Err}
 use lib.ListN.{length, take, drop, length-append, length-drop}
 use lib.Seq.{take_all}
 use lib.Dec.{lit≤}
@@ -15,27 +16,30 @@ use Rattle.numbers.specs.Promise.{Does}
 use Rattle.numbers.specs.declared.Refusal.{Refusal}
 use Rattle.numbers.specs.declared.Reply.{Reply}
 use Rattle.pins.specs.declared.Pin.{Pin}
-use Rattle.answers.specs.Answers.{block_of, bytes_of, Roomy, digits_of}
+use Rattle.answers.specs.Answers.{block_of, digits_of}
 use Rattle.answers.proofs.Laws.{Sixteen, sixteen_word, sixteen_nibs}
 use Rattle.offsettexts.specs.OffsetTexts.{offset_text}
 use Rattle.offsettexts.proofs.Laws.{text_length}
 use Rattle.frame.specs.Frame.{opening}
 use Rattle.frame.proofs.Laws.{over_lent, opening_length}
-use Rattle.fields.specs.Fields.{Ruling, unpointed, heard}
+use Rattle.fields.specs.Fields.{Ruling, unpointed}
 use Rattle.responses.specs.Responses as paper
 use Rattle.responses.specs.Responses.{payload_text, answer_text, responding}
-use Rattle.responses.specs.Answers.{asked_row, row_in, asked_of, asked_bytes, RoomToAsk, payload_of, answered_of, answered_text, carried, Short, Writable}
-use Rattle.responses.specs.declared.Asked.{Asked}
-use Rattle.responses.specs.declared.Asked.TheVariants as asked
+use Rattle.responses.specs.Answers.{asked_of, asked_bytes, RoomToAsk, payload_of, answered_of, answered_text, carried, Short, Writable}
 use Rattle.responses.specs.declared.Payload.{Payload}
 use Rattle.responses.specs.declared.Payload.TheVariants.{Offset, Nothing}
 
 -- ---- the asking call
 
--- the row of a block is what is asked for, and a refusal in its place points at nothing
-pub block_asked : (o : Outcome (List ℕ)) → asked_row (block_of o) ≡ asked_of (unpointed o)
-block_asked (done bytes) = refl
-block_asked (refused q) = refl
+-- the block of a judgement that points at nothing is what is asked for
+pub block_asked : (o : Outcome (List ℕ)) (w : ℕ) → Ok w ≡ block_of o → Ok w ≡ asked_of (unpointed o)
+block_asked (done bytes) w e = let z : w ≡ word (nibs bytes) = cc in ap Ok z
+block_asked (refused q) w e = absurd (let z : ◌≡◌ {A = ℕ} 0 1 = cc in omega arith)
+
+-- or its refusal, which points at nothing
+pub block_refused : (o : Outcome (List ℕ)) (q : Refusal) → Err q ≡ block_of o → Err (record { refusal = q; field = 0; place = 0 }) ≡ asked_of (unpointed o)
+block_refused (done bytes) q e = absurd (let z : ◌≡◌ {A = ℕ} 0 1 = cc in omega arith)
+block_refused (refused p) q e = let z : q ≡ p = cc in ap (λ (x : Refusal). Err (record { refusal = x; field = 0; place = 0 })) z
 
 -- the code's block says what is asked for, where that is the bytes of such a row
 abbrev pub Blocky : Ruling (List ℕ) → ℕ → Type 0
@@ -51,15 +55,6 @@ asked_bytes_lem (refused f) room b = refl
 pub asked_roomy : (o : Ruling (List ℕ)) (room : ℕ) → Blocky o room → RoomToAsk (asked_of o) room
 asked_roomy (done bs) room b = (b bs refl).0
 asked_roomy (refused f) room b = tt
-
--- as a row it says the same, and has the same room
-pub row_says : (asked : Asked) → bytes_of (row_in asked) ≡ heard (asked_bytes asked)
-row_says (asked.Block w) = refl
-row_says (asked.Bad f) = refl
-
-pub row_roomy : (asked : Asked) (room : ℕ) → RoomToAsk asked room → Roomy (row_in asked) room
-row_roomy (asked.Block w) room h = h
-row_roomy (asked.Bad f) room h = tt
 
 -- ---- the answering call
 

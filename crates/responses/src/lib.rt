@@ -3,34 +3,21 @@
 
 ghost use Rattle.std.specs.Prelude.{◌≡◌, ◌++◌, ◌≤◌, length, drop};
 ghost use Rattle.numbers.specs.Promise.{Does, quietly};
-ghost use Rattle.numbers.specs.Numbers.{number_of};
-ghost use Rattle.fields.specs.Fields.{heard, nowhere, shown};
+ghost use Rattle.numbers.specs.Numbers.{done, number_of};
+ghost use Rattle.fields.specs.Fields.{heard, nowhere, pointer_of, shown};
 ghost use Rattle.responses.specs.Responses.{responding};
-ghost use Rattle.responses.specs.Answers.{asked_row, row_in, ask_fault, asked_bytes, RoomToAsk, answer_fault, carried, answered_text, Short, Brief, Writable, Responding};
+ghost use Rattle.responses.specs.Answers.{asked_bytes, RoomToAsk, carried, answered_text, Short, Brief, Writable, Responding};
 
 use fields::{Fault, Pointer};
-use numbers::{Refusal, Reply};
-use pins::{Pin, Row};
+use numbers::Reply;
+use pins::Pin;
 
-// What a command brings behind 00; an offset's digits are held as a PIN's are.
+// What a command brings behind 00; an offset's digits are held as a PIN's are. These are kinds of payload, not a value that may be missing:
+// `Some(pin)` would not say that the digits are an offset's.
 #[derive(Clone, Copy)]
 pub enum Payload {
     Offset(Pin),
     Nothing,
-}
-
-// What the asking call came to: the block to be enciphered, as a row in a word. So with the PIN block's call, and the PIN block.
-#[derive(Clone, Copy)]
-pub enum Asked {
-    Block(u64),
-    Bad(Fault),
-}
-
-// What the answering call came to: the payload, and the place of the trailer's mark.
-#[derive(Clone, Copy)]
-pub enum Answered {
-    With(Payload, usize),
-    Bad(Fault),
 }
 
 // What a call of a command answers: the reply, and what the server is shown of a fault.
@@ -41,90 +28,38 @@ pub struct Told {
 }
 
 impl Told {
-    // A refusal that writes nothing and points at nothing.
-    pub fn refused(refusal: Refusal) -> Told
-        ensures { (result.reply.number ≡ number_of refusal) × (result.reply.written ≡ 0) × (result.pointer ≡ nowhere) }
+    // 00, with a count of what was written.
+    pub fn done(written: u32) -> Told
+        ensures { (result.reply.number ≡ 0) × (result.reply.written ≡ written) × (result.pointer ≡ nowhere) }
     {
         Told {
-            reply: Reply::refused(refusal),
+            reply: Reply::done(written),
             pointer: Pointer::NOWHERE,
         }
     }
-}
 
-impl Asked {
-    // A row of sixteen nibbles, or a refusal that is pointed at nothing.
-    pub fn of(row: Row) -> Asked
-        ensures { result ≡ asked_row row }
+    // A fault that writes nothing.
+    pub fn refused(fault: Fault) -> Told
+        ensures { (result.reply.number ≡ number_of fault.refusal) × (result.reply.written ≡ 0) × (result.pointer ≡ pointer_of fault) }
     {
-        match row {
-            Row::Held(block) => Asked::Block(block),
-            Row::Refused(refusal) => Asked::Bad(fields::unpointed(refusal)),
-        }
-    }
-
-    // The block as a row, or the refusal.
-    pub fn row(self) -> Row
-        ensures { result ≡ row_in self }
-    {
-        match self {
-            Asked::Block(block) => Row::Held(block),
-            Asked::Bad(fault) => {
-                let refusal = fault.refusal;
-                Row::Refused(refusal)
-            }
-        }
-    }
-
-    // What the server is shown of it.
-    pub fn pointer(self) -> Pointer
-        ensures { result ≡ shown (asked_bytes self) }
-    {
-        match self {
-            Asked::Block(_) => Pointer::NOWHERE,
-            Asked::Bad(fault) => fault.pointer(),
-        }
-    }
-
-    // Why there is no block; asked only where there is none. So with the answer.
-    fn fault(self) -> Fault
-        ensures { result ≡ ask_fault self }
-    {
-        match self {
-            Asked::Block(_) => fields::no_fault(),
-            Asked::Bad(fault) => fault,
-        }
-    }
-}
-
-impl Answered {
-    fn fault(self) -> Fault
-        ensures { result ≡ answer_fault self }
-    {
-        match self {
-            Answered::With(_, _) => fields::no_fault(),
-            Answered::Bad(fault) => fault,
+        Told {
+            reply: Reply::refused(fault.refusal),
+            pointer: fault.pointer(),
         }
     }
 }
 
 // Writes the block that the key box must encipher, or nothing.
-pub fn ask(asked: Asked, out: &mut [u8]) -> Told
+pub fn ask(asked: Result<u64, Fault>, out: &mut [u8]) -> Told
     requires { RoomToAsk asked (length out.old) }
     ensures { Does (quietly (heard (asked_bytes asked))) out.old result.reply out.new × (result.pointer ≡ shown (asked_bytes asked)) }
 {
-    let Asked::Block(row) = asked else {
-        let fault = asked.fault();
-        let refusal = fault.refusal;
-        return Told {
-            reply: Reply::refused(refusal),
-            pointer: fault.pointer(),
-        };
-    };
-    nibbles::put_bytes(row, out);
-    Told {
-        reply: Reply::done(8),
-        pointer: Pointer::NOWHERE,
+    match asked {
+        Ok(row) => {
+            nibbles::put_bytes(row, out);
+            Told::done(8)
+        }
+        Err(fault) => Told::refused(fault),
     }
 }
 
@@ -151,7 +86,7 @@ fn respond_with(
     out: &mut [u8],
 ) -> Reply
     requires { Responding header command.now (length out.old) × Brief payload mark command.now }
-    ensures { Does (responding header command.now (heard (answered_text command.now (Answered.With payload mark)))) out.old result out.new }
+    ensures { Does (responding header command.now (done (carried payload ++ drop mark command.now))) out.old result out.new }
 {
     let to_payload = header + 4;
     frame::open(header, command, 0, out);
@@ -160,29 +95,32 @@ fn respond_with(
     Reply::done((to_trailer + (command.len() - mark)) as u32)
 }
 
-// Writes the response of a command that has a frame.
-pub fn respond(header: usize, command: &[u8], answered: Answered, out: &mut [u8]) -> Told
+// Writes the response of a command that has a frame: of its payload with the place of the trailer's mark, or of its fault.
+pub fn respond(
+    header: usize,
+    command: &[u8],
+    answered: Result<(Payload, usize), Fault>,
+    out: &mut [u8],
+) -> Told
     requires { Responding header command.now (length out.old) × Writable command.now answered }
     ensures { Does (responding header command.now (heard (answered_text command.now answered))) out.old result.reply out.new × (result.pointer ≡ shown (answered_text command.now answered)) }
 {
-    let Answered::With(payload, mark) = answered else {
-        let fault = answered.fault();
-        let refusal = fault.refusal;
-        frame::put_run(&command[..header], out);
-        // Not before the header: what stands between keeps the compiler from a jump for each number.
-        let number = refusal.number();
-        frame::put_code(header, command, number, &mut out[header..]);
-        let reply = Reply {
-            number,
-            written: header as u32 + 4,
-        };
-        return Told {
-            reply,
-            pointer: fault.pointer(),
-        };
-    };
-    Told {
-        reply: respond_with(header, command, payload, mark, out),
-        pointer: Pointer::NOWHERE,
+    match answered {
+        Ok((payload, mark)) => Told {
+            reply: respond_with(header, command, payload, mark, out),
+            pointer: Pointer::NOWHERE,
+        },
+        Err(fault) => {
+            frame::put_run(&command[..header], out);
+            let number = fault.refusal.number();
+            frame::put_code(header, command, number, &mut out[header..]);
+            Told {
+                reply: Reply {
+                    number,
+                    written: header as u32 + 4,
+                },
+                pointer: fault.pointer(),
+            }
+        }
     }
 }

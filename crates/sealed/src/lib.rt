@@ -1,13 +1,12 @@
 // A stage of commands: PIN block and format.
 #![tactic(auto)]
 
-ghost use Rattle.std.specs.Prelude.{◌≡◌, ◌≤◌};
+ghost use Rattle.std.specs.Prelude.{◌≡◌};
+ghost use Rattle.fields.specs.Answers.{stage_of};
 ghost use Rattle.sealed.specs.Sealed.{sealed};
-ghost use Rattle.sealed.specs.Answers.{sealed_read, sealed_fault};
 
 use alphabet::Class;
-use fields::{Cursor, Fault, Value};
-use formatfield::FormatRead;
+use fields::{Cursor, Fault};
 use formats::Format;
 use numbers::Refusal;
 
@@ -18,46 +17,26 @@ pub struct Sealed {
     pub format: Format,
 }
 
-#[derive(Clone, Copy)]
-pub enum SealedRead {
-    Got(Sealed, Cursor),
-    Bad(Fault),
-}
-
-impl SealedRead {
-    // Why they were not read; asked only where they were not.
-    pub fn fault(self) -> Fault
-        ensures { result ≡ sealed_fault self }
-    {
-        match self {
-            SealedRead::Got(_, _) => fields::no_fault(),
-            SealedRead::Bad(fault) => fault,
-        }
-    }
-}
-
 // PIN block and format.
-pub fn read_sealed(command: &[u8], block: Cursor, field: usize, restricted: bool) -> SealedRead
-    requires { field ≤ 64 }
-    ensures { result ≡ sealed_read (sealed field restricted command.now block.at) }
+#[tactic(auto, unfolding(crate::specs::Sealed::sealed))]
+pub fn read_sealed(
+    command: &[u8],
+    block: Cursor,
+    field: u8,
+    restricted: bool,
+) -> Result<(Sealed, Cursor), Fault>
+    ensures { result ≡ stage_of (sealed field restricted command.now block.at) }
 {
-    let digits = block.run(
-        command,
-        16,
-        Class::CapitalHex,
-        Refusal::Field15,
-        Refusal::Field15,
-    );
-    let Value::Got(_, at_format) = digits else {
-        return SealedRead::Bad(fields::fault_at(Refusal::Field15, field, block));
-    };
+    let one = usize::from(field);
+    let other = one + 1;
+    let missing = Refusal::Field15;
+    let digits = block.run(command, 16, Class::CapitalHex, missing, missing);
+    let (_, at_format) = digits.map_err(|q| fields::fault_at(q, one, block))?;
     let chosen = formatfield::format_field(at_format, command, restricted);
-    let FormatRead::Got(format, next) = chosen else {
-        return SealedRead::Bad(fields::fault_at(chosen.refusal(), field + 1, at_format));
-    };
+    let (format, next) = chosen.map_err(|q| fields::fault_at(q, other, at_format))?;
     let sealed = Sealed {
         block: block.at,
         format,
     };
-    SealedRead::Got(sealed, next)
+    Ok((sealed, next))
 }

@@ -44,7 +44,7 @@ pub fn class_end(class: Class, s: &[u8]) -> usize
     s.iter().position(|c| !class.admits(*c)).unwrap_or(s.len())
 }
 
-// Writes n digits to `out` as characters.
+// Writes n digits to `out` as characters. That is `nibbles::put_nibbles` with another byte: one of both would take a closure and be longer.
 #[tactic(auto, using(nibbles::proofs::Rows::row_at_lt))]
 pub fn put_characters(digits: u64, n: usize, out: &mut [u8])
     requires { (n ≤ 16) × (n ≤ length out.old) }

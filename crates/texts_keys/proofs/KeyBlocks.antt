@@ -1,5 +1,6 @@
 -- The reader of a key block is exact.
 -- Assumes nothing.
+use Rattle.std.specs.Prelude.{Some}
 use Prim.Native.Nat.{ℕ, zero, suc, ◌+◌, ◌-◌, ◌*◌, ◌≤◌, ◌<◌, ◌/◌, ◌%◌}
 use native.Mathlib.Omega.{arith}
 use mathlib.Core.Path.{◌≡◌, refl, sym, ap, ◌∙◌}
@@ -19,7 +20,6 @@ use Rattle.numbers.specs.declared.Refusal.TheVariants.{Field15, Key26}
 use Rattle.numbers.proofs.Laws.{then_done, passed}
 use Rattle.fields.specs.Fields.{run, number}
 use Rattle.fields.proofs.Laws.{run_whole, run_found}
-use Rattle.lmk.specs.declared.Lmk.TheVariants.{Id}
 use Rattle.uses.specs.Uses.{usages_in, algorithm_t, modes_in, begins_one, is_one, permits}
 use Rattle.uses.specs.declared.Use.{Use}
 use Rattle.uses.specs.declared.Usages.{Usages}
@@ -208,11 +208,11 @@ module _ (for : Use) (k : KeyBlock) (g : IsBlock (rule_for for) k) (rest : List 
       = ap (drop 5) (append_assoc k.unjudged (as_two_digits k.id ++ k.tail) rest) ∙ drop_at k.unjudged ((as_two_digits k.id ++ k.tail) ++ rest) 5 g.unjudged.0 ∙ append_assoc (as_two_digits k.id) k.tail rest in
       rw (u.two, e) ((number_exact 0 9 Field15 (omega arith)).back k.id (k.tail ++ rest) (omega arith, omega (arith, g.id.1)))
 
-  block_back : key_block for (block_text k ++ rest) ≡ done (Id k.id, length (block_text k))
+  block_back : key_block for (block_text k ++ rest) ≡ done (Some k.id, length (block_text k))
   unfolding cs long body
   block_back =
       block_done for cs k.id long (record { sized = sized; text = text; permitted = permitted; named = named })
-      ∙ ap (λ (m : ℕ). done (Id k.id, m)) (omega (arith, body_long))
+      ∙ ap (λ (m : ℕ). done (Some k.id, m)) (omega (arith, body_long))
 
 -- ---- nothing else is read
 
@@ -259,7 +259,7 @@ four_only c₁ c₂ c₃ c₄ n h m =
     let e₄ : c₄ ≡ 0x30 + n % 100 % 10 = omega (arith, v₁, v₂, v₃, v₄) in
     cc
 
-block_only : (for : Use) (l : List ℕ) (id n : ℕ) → Block for l id n → Nine l → Opens (blocks for) l n (Id id)
+block_only : (for : Use) (l : List ℕ) (id n : ℕ) → Block for l id n → Nine l → Opens (blocks for) l n (Some id)
 unfolding permits
 block_only for l id n b (nine c₀ c₁ c₂ c₃ c₄ c₅ c₆ c₇ c₈ tail) =
     let f = length_found l n 5 b.sized in

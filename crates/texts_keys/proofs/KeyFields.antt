@@ -1,5 +1,6 @@
 -- The readers of key type, key and LMK id are exact.
 -- Assumes nothing.
+use Rattle.std.specs.Prelude.{Option, Some, None}
 use Prim.Native.Nat.{ℕ, suc, ◌≤◌}
 use native.Mathlib.Omega.{arith}
 use mathlib.Core.Path.{◌≡◌, refl, sym, ap, ◌∙◌}
@@ -17,8 +18,6 @@ use Rattle.numbers.specs.declared.Refusal.TheVariants.{Field15}
 use Rattle.numbers.proofs.Laws.{value_of_lem}
 use Rattle.fields.specs.Fields.{Found, run, number, marked}
 use Rattle.lmk.specs.Lmk.{lmk_mark, lmk_field, agree}
-use Rattle.lmk.specs.declared.Lmk.{Lmk}
-use Rattle.lmk.specs.declared.Lmk.TheVariants.{Absent, Id}
 use Rattle.uses.specs.Uses.{pin_key, pvk, terminal_key, zone_key, verifying_pvk}
 use Rattle.uses.specs.declared.Use.{Use}
 use Rattle.keyblocks.specs.KeyBlocks.{key_block}
@@ -79,12 +78,12 @@ type_exact = record {
 
 -- ---- keys
 
-abbrev hex : ℕ → Writing Lmk
-hex n = mapped (λ _. Absent) (runs CapitalHex n)
+abbrev hex : ℕ → Writing (Option ℕ)
+hex n = mapped (λ _. None) (runs CapitalHex n)
 
 hex_exact : (n : ℕ) → Exact (hex_key n) (hex n)
 unfolding hex_key
-hex_exact n = mapped_exact (λ _. Absent) (run CapitalHex Field15 Field15 n) (runs CapitalHex n) (run_exact CapitalHex Field15 Field15 n)
+hex_exact n = mapped_exact (λ _. None) (run CapitalHex Field15 Field15 n) (runs CapitalHex n) (run_exact CapitalHex Field15 Field15 n)
 
 -- a bare key begins with a hex character, so it has no letter
 bare_first : (n : ℕ) (cs rest : List ℕ) → Run CapitalHex (suc n) cs → admits CapitalHex (get_or (cs ++ rest) 0 0) ≡ true
@@ -92,17 +91,17 @@ bare_first n [] rest g = absurd (omega (arith, g.0))
 bare_first n (c ∷ cs) rest g = (all_first CapitalHex c cs g.1).0
 
 -- what a field may not admit
-abbrev gated : Bool → Writing Lmk → Writing Lmk
+abbrev gated : Bool → Writing (Option ℕ) → Writing (Option ℕ)
 gated b w = record { Part = w.Part; fine = λ p rest. (b ≡ true) × w.fine p rest; text = w.text; value = w.value }
 
-admitted_exact : (b : Bool) (reader : List ℕ → Found Lmk) (w : Writing Lmk) → Exact reader w → Exact (λ cs. admitted b (reader cs)) (gated b w)
+admitted_exact : (b : Bool) (reader : List ℕ → Found (Option ℕ)) (w : Writing (Option ℕ)) → Exact reader w → Exact (λ cs. admitted b (reader cs)) (gated b w)
 admitted_exact b reader w x = record {
   back = λ p rest g. rw g.0 (x.back p rest g.1);
   only = only b;
   apart = λ p q rest rest' g h e. x.apart p q rest rest' g.1 h.1 e;
 }
   where
-    only : (b : Bool) (cs : List ℕ) (l : Lmk) (n : ℕ) → admitted b (reader cs) ≡ done (l, n) → Opens (gated b w) cs n l
+    only : (b : Bool) (cs : List ℕ) (l : Option ℕ) (n : ℕ) → admitted b (reader cs) ≡ done (l, n) → Opens (gated b w) cs n l
     only true cs l n e =
         let o = x.only cs l n e in
         record { part = o.part; rest = o.rest; good = (refl, o.good); whole = o.whole; count = o.count; same = o.same }
@@ -116,7 +115,7 @@ bare_exact b = record {
   apart = λ p q rest rest' g h e. (hex_exact 32).apart p q rest rest' g.1 h.1 e;
 }
   where
-    only : (cs : List ℕ) (l : Lmk) (n : ℕ) (t : Bool) → (b && admits CapitalHex (get_or cs 0 0)) ≡ t → admitted t (hex_key 32 cs) ≡ done (l, n) → Opens (gated b (hex 32)) cs n l
+    only : (cs : List ℕ) (l : Option ℕ) (n : ℕ) (t : Bool) → (b && admits CapitalHex (get_or cs 0 0)) ≡ t → admitted t (hex_key 32 cs) ≡ done (l, n) → Opens (gated b (hex 32)) cs n l
     only cs l n true h e =
         let o = (hex_exact 32).only cs l n e in
         record { part = o.part; rest = o.rest; good = (and_left b (admits CapitalHex (get_or cs 0 0)) h, o.good); whole = o.whole; count = o.count; same = o.same }
@@ -124,7 +123,7 @@ bare_exact b = record {
 
 module _ (letters : Letters) (for : Use) where
   -- letter by letter
-  abbrev by_letter : Writing Lmk
+  abbrev by_letter : Writing (Option ℕ)
   by_letter =
       either letter_u (gated letters.double (hex 32))
       (either letter_t (gated letters.triple (hex 48))
@@ -196,7 +195,7 @@ module _ (letters : Letters) (for : Use) where
 
 pub id_exact : Exact lmk_field ids
 unfolding lmk_field
-id_exact = optional_exact lmk_mark _ (mapped Id (numbers 0 9)) Absent (mapped_exact Id (number 0 9 Field15) (numbers 0 9) (number_exact 0 9 Field15 (omega arith)))
+id_exact = optional_exact lmk_mark _ (mapped Some (numbers 0 9)) None (mapped_exact Some (number 0 9 Field15) (numbers 0 9) (number_exact 0 9 Field15 (omega arith)))
 
 -- ---- in the paper's words
 
@@ -297,28 +296,28 @@ own_ids_lem absent = refl
 own_ids_lem (present v) = refl
 
 -- two agree where one is not there, or both are the same
-agree_all : (a b c : Lmk) → (agree a b && (agree a c && agree b c)) ≡ true → AllSame (ids_read a ++ (ids_read b ++ ids_read c))
-agree_all Absent Absent Absent h = tt
-agree_all Absent Absent (Id z) h = tt
-agree_all Absent (Id y) Absent h = tt
-agree_all Absent (Id y) (Id z) h = (eqb-true y z h, tt)
-agree_all (Id x) Absent Absent h = tt
-agree_all (Id x) Absent (Id z) h = (eqb-true x z (and_left (eqb x z) true h), tt)
-agree_all (Id x) (Id y) Absent h = (eqb-true x y (and_left (eqb x y) true h), tt)
-agree_all (Id x) (Id y) (Id z) h =
+agree_all : (a b c : Option ℕ) → (agree a b && (agree a c && agree b c)) ≡ true → AllSame (ids_read a ++ (ids_read b ++ ids_read c))
+agree_all None None None h = tt
+agree_all None None (Some z) h = tt
+agree_all None (Some y) None h = tt
+agree_all None (Some y) (Some z) h = (eqb-true y z h, tt)
+agree_all (Some x) None None h = tt
+agree_all (Some x) None (Some z) h = (eqb-true x z (and_left (eqb x z) true h), tt)
+agree_all (Some x) (Some y) None h = (eqb-true x y (and_left (eqb x y) true h), tt)
+agree_all (Some x) (Some y) (Some z) h =
     let more = and_right (eqb x y) (eqb x z && eqb y z) h in
     (eqb-true x y (and_left (eqb x y) (eqb x z && eqb y z) h), (eqb-true y z (and_right (eqb x z) (eqb y z) more), tt))
 
-all_agree_lem : (a b c : Lmk) → AllSame (ids_read a ++ (ids_read b ++ ids_read c)) → (agree a b && (agree a c && agree b c)) ≡ true
-all_agree_lem Absent Absent Absent h = refl
-all_agree_lem Absent Absent (Id z) h = refl
-all_agree_lem Absent (Id y) Absent h = refl
-all_agree_lem Absent (Id y) (Id z) h = eq-eqb y z h.0
-all_agree_lem (Id x) Absent Absent h = refl
-all_agree_lem (Id x) Absent (Id z) h = rw (eq-eqb x z h.0)
-all_agree_lem (Id x) (Id y) Absent h = rw (eq-eqb x y h.0)
-all_agree_lem (Id x) (Id y) (Id z) h = rw (eq-eqb x y h.0, eq-eqb x z (h.0 ∙ h.1.0), eq-eqb y z h.1.0)
+all_agree_lem : (a b c : Option ℕ) → AllSame (ids_read a ++ (ids_read b ++ ids_read c)) → (agree a b && (agree a c && agree b c)) ≡ true
+all_agree_lem None None None h = refl
+all_agree_lem None None (Some z) h = refl
+all_agree_lem None (Some y) None h = refl
+all_agree_lem None (Some y) (Some z) h = eq-eqb y z h.0
+all_agree_lem (Some x) None None h = refl
+all_agree_lem (Some x) None (Some z) h = rw (eq-eqb x z h.0)
+all_agree_lem (Some x) (Some y) None h = rw (eq-eqb x y h.0)
+all_agree_lem (Some x) (Some y) (Some z) h = rw (eq-eqb x y h.0, eq-eqb x z (h.0 ∙ h.1.0), eq-eqb y z h.1.0)
 
 -- all that are present agree
-pub ids_agree_lem : (a b c : Lmk) → ((agree a b && (agree a c && agree b c)) ≡ true) ↔ AllSame (ids_read a ++ (ids_read b ++ ids_read c))
+pub ids_agree_lem : (a b c : Option ℕ) → ((agree a b && (agree a c && agree b c)) ≡ true) ↔ AllSame (ids_read a ++ (ids_read b ++ ids_read c))
 ids_agree_lem a b c = (agree_all a b c, all_agree_lem a b c)

@@ -1,7 +1,5 @@
 -- How key types, keys and LMK ids are written, with what the readers read of each.
-use Rattle.std.specs.Prelude.{ℕ, ◌≡◌, List, [], ◌∷◌, true}
-use Rattle.lmk.specs.declared.Lmk.{Lmk}
-use Rattle.lmk.specs.declared.Lmk.TheVariants.{Absent, Id}
+use Rattle.std.specs.Prelude.{ℕ, ◌≡◌, List, [], ◌∷◌, true, Option, Some, None}
 use Rattle.uses.specs.Uses.{usages_in, modes_in}
 use Rattle.uses.specs.declared.Use.{Use}
 use Rattle.keys.specs.Keys.{only_u_or_t, only_s}
@@ -26,8 +24,8 @@ abbrev pub rule_for : Use → KeyRule
 rule_for for = record { usages = usages_in for.usages; algorithms = printed "T"; modes = modes_in for.modes }
 
 -- of a key block its LMK id is read
-abbrev pub blocks : Use → Writing Lmk
-blocks for = record { Part = KeyBlock; fine = λ k _. IsBlock (rule_for for) k; text = block_text; value = λ k. Id k.id }
+abbrev pub blocks : Use → Writing (Option ℕ)
+blocks for = record { Part = KeyBlock; fine = λ k _. IsBlock (rule_for for) k; text = block_text; value = λ k. Some k.id }
 
 -- a key field admits a key by its letter
 abbrev pub Admits : Letters → Key → Type 0
@@ -37,20 +35,20 @@ Admits letters (triple cs) = letters.triple ≡ true
 Admits letters (block k) = letters.block ≡ true
 
 -- of a key its LMK id is read, where it has one
-abbrev pub lmk_of : Key → Lmk
-lmk_of (bare cs) = Absent
-lmk_of (double cs) = Absent
-lmk_of (triple cs) = Absent
-lmk_of (block k) = Id k.id
+abbrev pub lmk_of : Key → Option ℕ
+lmk_of (bare cs) = None
+lmk_of (double cs) = None
+lmk_of (triple cs) = None
+lmk_of (block k) = Some k.id
 
-abbrev pub keyed : Letters → Use → Writing Lmk
+abbrev pub keyed : Letters → Use → Writing (Option ℕ)
 keyed letters for = record { Part = Key; fine = λ k _. Admits letters k × IsKey (rule_for for) k; text = key_text; value = lmk_of }
 
 -- an LMK id behind its mark, or none
-abbrev pub ids : Writing Lmk
-ids = optional mark_of_id (record { Part = ℕ; fine = λ v _. IsId v; text = as_two_digits; value = Id }) Absent
+abbrev pub ids : Writing (Option ℕ)
+ids = optional mark_of_id (record { Part = ℕ; fine = λ v _. IsId v; text = as_two_digits; value = Some }) None
 
 -- the id that was read, where one was
-abbrev pub ids_read : Lmk → List ℕ
-ids_read Absent = []
-ids_read (Id v) = v ∷ []
+abbrev pub ids_read : Option ℕ → List ℕ
+ids_read None = []
+ids_read (Some v) = v ∷ []

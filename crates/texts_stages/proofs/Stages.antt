@@ -1,5 +1,6 @@
 -- The stages of a command are read exactly: a line for each field, and then the parts by name.
 -- Assumes nothing.
+use Rattle.std.specs.Prelude.{Option}
 use Prim.Native.Nat.{ℕ, ◌+◌, ◌≤◌}
 use native.Mathlib.Nat.{add-zero}
 use native.Mathlib.Omega.{arith}
@@ -19,7 +20,6 @@ use Rattle.validation.specs.declared.Shape.{Shape}
 use Rattle.fields.specs.Fields.{read, faulty, run, number, trailer}
 use Rattle.fields.proofs.Reading.{read_once}
 use Rattle.lmk.specs.Lmk.{lmk_field}
-use Rattle.lmk.specs.declared.Lmk.{Lmk}
 use Rattle.uses.specs.declared.Use.{Use}
 use Rattle.keys.specs.Keys.{key_type, key}
 use Rattle.keys.specs.declared.Letters.{Letters}
@@ -57,7 +57,7 @@ use Rattle.texts_stages.specs.StageWritings.{pair_at, keys_at, sealed_at, inputs
 abbrev pair_joined : ℕ → Letters → Use → Letters → Use → ℕ → Writing Keys
 pair_joined first letters₁ use₁ letters₂ use₂ at₁ =
     joined at₁ (keyed letters₁ use₁)
-    (λ lmk₁ at₂. mapped (λ (lmk₂ : Lmk). record { first = lmk₁; second = lmk₂; field = first + 1; place = at₂ }) (keyed letters₂ use₂))
+    (λ lmk₁ at₂. mapped (λ (lmk₂ : Option ℕ). record { first = lmk₁; second = lmk₂; field = first + 1; place = at₂ }) (keyed letters₂ use₂))
 
 pair_same : (first : ℕ) (letters₁ : Letters) (use₁ : Use) (letters₂ : Letters) (use₂ : Use) (at : ℕ)
     → Same (pair_joined first letters₁ use₁ letters₂ use₂ at) (pair_at first letters₁ use₁ letters₂ use₂ at)
@@ -183,10 +183,10 @@ weak_stage_exact first mark s at = field_alone s at first (weak_field mark at) (
 -- ---- the end
 
 -- nothing: what is behind is nothing too, and the ids agree
-abbrev closing : Keys → Lmk → ℕ → Writing ℕ
+abbrev closing : Keys → Option ℕ → ℕ → Writing ℕ
 closing ks own mark = record { Part = Unit {0}; fine = λ _ rest. (rest ≡ []) × (all_agree ks own ≡ true); text = λ _. []; value = λ _. mark }
 
-module _ (ks : Keys) (own : Lmk) (first at : ℕ) (s : List ℕ) (mark past : ℕ) where
+module _ (ks : Keys) (own : Option ℕ) (first at : ℕ) (s : List ℕ) (mark past : ℕ) where
   -- it was read: nothing is left over, and the ids agree
   closed_read : (m p : ℕ) → closed ks own first at s mark past ≡ read m p → (length s ≤ past) × (all_agree ks own ≡ true) × (m ≡ mark) × (p ≡ past)
   closed_read m p e = by_rest (leb (length s) past) (all_agree ks own) refl refl e

@@ -1,36 +1,29 @@
 // Translation between the six formats: one is read, another is written, under the same account.
 #![tactic(auto)]
 
-ghost use Rattle.std.specs.Prelude.{◌≡◌, ◌^◌, ◌<◌, length};
+ghost use Rattle.std.specs.Prelude.{◌≡◌, length};
 ghost use Rattle.nibbles.specs.Nibbles.{row};
+ghost use Rattle.numbers.specs.Numbers.{done};
 ghost use Rattle.numbers.specs.Promise.{Does, quietly};
 ghost use Rattle.pins.specs.Pins.{account_field};
 ghost use Rattle.answers.specs.Answers.{block_of};
-ghost use Rattle.pairs.specs.Answers.{pair_in};
 ghost use Rattle.translation.specs.Translation.{carried_block, translate_block};
 
+use formats::Format;
 use numbers::{Refusal, Reply};
-use pairs::Pair;
-use pins::{Reading, Row};
 use settings::Settings;
 
-// Reads and writes under the account, where the formats are settled.
-fn carried(pair: Pair, account: u64, block: u64, fill: u64) -> Row
-    requires { account < 16 ^ 12 }
-    ensures { result ≡ block_of (carried_block (pair_in pair) (account_field (row 12 account)) (row 16 block) (row 16 fill)) }
+// Reads in the one format and writes in the other, under the account.
+fn carried(from: Format, to: Format, account: u64, block: u64, fill: u64) -> Result<u64, Refusal>
+    ensures { result ≡ block_of (carried_block (done (from, to)) (account_field (row 12 account)) (row 16 block) (row 16 fill)) }
 {
-    let Pair::Of(from, to) = pair else {
-        return Row::Refused(pair.refusal());
-    };
     let field = pins::field(account);
-    let reading = blocks::read(from, field, block);
-    let Reading::Got(pin) = reading else {
-        return Row::Refused(reading.refusal());
-    };
-    Row::Held(blocks::write(to, field, pin, fill))
+    let pin = blocks::read(from, field, block)?;
+    Ok(blocks::write(to, field, pin, fill))
 }
 
 // Judges the call: 901, 15 for block, account and fill, 23, 69, the block.
+#[tactic(auto, unfolding(crate::specs::Translation::translate_block))]
 fn judged(
     settings: Settings,
     from: u32,
@@ -39,25 +32,17 @@ fn judged(
     account: &[u8],
     fill: &[u8],
     room: usize,
-) -> Row
+) -> Result<u64, Refusal>
     ensures { result ≡ block_of (translate_block settings.restricted from to block.now account.now fill.now room) }
 {
     if room < codes::block_width(to) {
-        return Row::Refused(Refusal::Room901);
+        return Err(Refusal::Room901);
     }
-    let sized = pins::sized_row(block, codes::block_width(from));
-    let Row::Held(row) = sized else {
-        return Row::Refused(Refusal::Field15);
-    };
-    let kept = pins::account(account);
-    let Row::Held(digits) = kept else {
-        return Row::Refused(Refusal::Field15);
-    };
-    let spare = pins::sized_row(fill, 8);
-    let Row::Held(filler) = spare else {
-        return Row::Refused(Refusal::Field15);
-    };
-    carried(Pair::by(settings.restricted, from, to), digits, row, filler)
+    let row = pins::sized_row(block, codes::block_width(from))?;
+    let digits = pins::account(account)?;
+    let filler = pins::sized_row(fill, 8)?;
+    let (read, written) = pairs::pair(settings.restricted, from, to)?;
+    carried(read, written, digits, row, filler)
 }
 
 // Translates a block.
@@ -72,6 +57,8 @@ pub fn translate(
 ) -> Reply
     ensures { Does (quietly (translate_block settings.restricted from to block.now account.now fill.now (length out.old))) out.old result out.new }
 {
-    let judgement = judged(settings, from, to, block, account, fill, out.len());
-    answers::answer(judgement, out)
+    answers::answer(
+        judged(settings, from, to, block, account, fill, out.len()),
+        out,
+    )
 }

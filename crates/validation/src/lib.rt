@@ -10,9 +10,9 @@ ghost use Rattle.validation.specs.Validation.{hex_end, is_template, is_whole, sh
 
 use alphabet::Class;
 use numbers::{Refusal, Reply};
-use pins::Row;
 
 // What validation data are: characters with an N, and the N's place among them, or P and a whole row.
+// Neither stands among them and is no None: `width` and `row` promise what they answer for it too.
 #[derive(Clone, Copy)]
 pub enum Shape {
     Template(usize),
@@ -97,29 +97,26 @@ impl Shape {
     }
 
     // The sixteen nibbles that data of this shape stand for, or 15. The account's twelve digits are a row in a word.
-    pub fn row(self, account: u64, validation: &[u8]) -> Row
+    pub fn row(self, account: u64, validation: &[u8]) -> Result<u64, Refusal>
         requires { self ≡ shape_of validation.now }
         ensures { result ≡ row_of (validation_row (row 12 account) validation.now) }
     {
         match self {
-            Shape::Template(at) => Row::Held(with_account(account, validation, at)),
-            Shape::Whole => Row::Held(spelling::values(&validation[1..])),
-            Shape::Neither => Row::Refused(Refusal::Field15),
+            Shape::Template(at) => Ok(with_account(account, validation, at)),
+            Shape::Whole => Ok(spelling::values(&validation[1..])),
+            Shape::Neither => Err(Refusal::Field15),
         }
     }
 }
 
 // Judges the call that makes the validation block: 901, 15 for account and validation data.
-fn judged(validation: &[u8], account: &[u8], room: usize) -> Row
+fn judged(validation: &[u8], account: &[u8], room: usize) -> Result<u64, Refusal>
     ensures { result ≡ block_of (validation_block validation.now account.now room) }
 {
     if room < 8 {
-        return Row::Refused(Refusal::Room901);
+        return Err(Refusal::Room901);
     }
-    let kept = pins::account(account);
-    let Row::Held(digits) = kept else {
-        return Row::Refused(Refusal::Field15);
-    };
+    let digits = pins::account(account)?;
     Shape::of(validation).row(digits, validation)
 }
 
@@ -127,6 +124,5 @@ fn judged(validation: &[u8], account: &[u8], room: usize) -> Row
 pub fn validation_block(validation: &[u8], account: &[u8], out: &mut [u8]) -> Reply
     ensures { Does (quietly (validation_block validation.now account.now (length out.old))) out.old result out.new }
 {
-    let judged = judged(validation, account, out.len());
-    answers::answer(judged, out)
+    answers::answer(judged(validation, account, out.len()), out)
 }

@@ -1,2 +1,1 @@
 pub mod ValidationField
-pub mod Answers

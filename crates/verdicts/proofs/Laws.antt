@@ -11,10 +11,10 @@ use lib.Dec.{leb, eqb, lit≤}
 use borrow.Author.Tests.{eq-eqb, ne_eqb}
 use Rattle.alphabet.proofs.Laws.{value_below}
 use Rattle.pins.specs.declared.Pin.{Pin}
-use Rattle.pins.specs.declared.Reading.TheVariants.{Got}
-use Rattle.pins.specs.Answers.{reading_of}
+use Rattle.std.specs.Prelude.{Ok}
+use Rattle.pins.specs.Answers.{pin_of, reading_of}
 use Rattle.pins.specs.Pins.{account_of, account_field, sized}
-use Rattle.pins.proofs.Laws.{reading_got, through, then_alike}
+use Rattle.pins.proofs.Laws.{through, then_alike}
 use Rattle.codes.specs.Codes.{code_of, format_of}
 use Rattle.blocks.specs.Blocks.{read_row}
 use Rattle.answers.specs.Answers.{digits_of}
@@ -24,7 +24,7 @@ use Rattle.nibbles.proofs.Rows.{row_word, row_length, word_row, word_lt}
 use Rattle.numbers.specs.Numbers.{Outcome, done, refused, and_then, unless}
 use Rattle.numbers.specs.declared.Refusal.{Refusal}
 use Rattle.numbers.specs.declared.Refusal.TheVariants.{Field15, Check81, Unverified01}
-use Rattle.numbers.proofs.Laws.{passed, failed, then_done, value_of_lem}
+use Rattle.numbers.proofs.Laws.{passed, then_done, value_of_lem, result_ok}
 use Rattle.alphabet.specs.Alphabet.{value_of}
 use Rattle.naturals.specs.Naturals.{table_sized, table_of}
 use Rattle.ibm3624.specs.Ibm3624.{check_length, covered, offset_of, covers}
@@ -33,18 +33,18 @@ use Rattle.ibm3624.proofs.Laws.{offset_many, reduced_below}
 use Rattle.offsets.specs.Offsets.{given, pin_with_natural, pin_and_natural, offset_for}
 use Rattle.offsets.specs.Answers.{pair_in}
 use Rattle.offsets.specs.declared.Compared.{Compared}
-use Rattle.offsets.proofs.Laws.{covers_within, covers_not}
+use Rattle.offsets.proofs.Laws.{covers_within}
 use Rattle.verdicts.specs.Verdicts.{verdict_on, offset_verdict}
 
 -- ---- the verdict, return by return
 
 -- where no offset can be made, no verdict can be given
-pub verdict_long : (variable : Bool) (check : ℕ) (os : List ℕ) (p : List ℕ × List ℕ) (q : Refusal) → offset_for variable check p ≡ refused q → verdict_on variable check os p ≡ refused Check81
+pub verdict_long : (variable : Bool) (check : ℕ) (os : List ℕ) (p : List ℕ × List ℕ) (q : Refusal) → offset_for variable check p ≡ refused q → verdict_on variable check os p ≡ refused q
 verdict_long variable check os p q e = go (covers variable check (length p.0)) refl e
   where
-    go : (o : Outcome ℕ) → covers variable check (length p.0) ≡ o → and_then o (λ m. done (offset_of m p.0 p.1)) ≡ refused q → verdict_on variable check os p ≡ refused Check81
+    go : (o : Outcome ℕ) → covers variable check (length p.0) ≡ o → and_then o (λ m. done (offset_of m p.0 p.1)) ≡ refused q → verdict_on variable check os p ≡ refused q
     go (done m) c h = absurd (let z : ◌≡◌ {A = ℕ} 0 1 = cc in omega arith)
-    go (refused r) c h = rw (covers_not variable check (length p.0) r c)
+    go (refused r) c h = rw c h
 
 module _ (variable : Bool) (check : ℕ) (p : Compared) (presented : Pin) (clean : presented.digits < 16 ^ presented.length) (ds : List ℕ) (made : offset_for variable check (pair_in p) ≡ done ds) where
   -- the offset that was made has as many digits as it covers
@@ -83,19 +83,15 @@ module _ (variable : Bool) (check : ℕ) (p : Compared) (presented : Pin) (clean
 
 -- ---- a presented offset
 
-pub presented_refused : (cs : List ℕ) (q : Refusal) → offset_presented cs ≡ refused q → offset_presented cs ≡ refused Field15
-presented_refused cs q e =
-    (failed Field15 q (eqb (length cs) 12 && (leb 4 (digit_end cs) && every (within 0x46 0x46) (drop (digit_end cs) cs))) (map value_of (take (digit_end cs) cs)) e).1
-
 presented_below : (cs ds : List ℕ) → offset_presented cs ≡ done ds → Below 16 ds
 presented_below cs ds e =
     let p = passed Field15 (eqb (length cs) 12 && (leb 4 (digit_end cs) && every (within 0x46 0x46) (drop (digit_end cs) cs))) (map value_of (take (digit_end cs) cs)) ds e in
     subst (Below 16) p.1 (map_below 16 value_of value_below (take (digit_end cs) cs))
 
 -- one that was read: its length holds its digits
-pub presented_held : (cs : List ℕ) (x : Pin) → Got x ≡ reading_of (offset_presented cs) → (os : List ℕ) × (offset_presented cs ≡ done os) × (x.digits < 16 ^ x.length) × (digits_of x ≡ os)
+pub presented_held : (cs : List ℕ) (x : Pin) → Ok x ≡ reading_of (offset_presented cs) → (os : List ℕ) × (offset_presented cs ≡ done os) × (x.digits < 16 ^ x.length) × (digits_of x ≡ os)
 presented_held cs x e =
-    let s = reading_got (offset_presented cs) x e in
+    let s = result_ok pin_of (offset_presented cs) x e in
     let b = presented_below cs s.0 s.1 in
     (s.0, s.1, subst (λ (y : Pin). y.digits < 16 ^ y.length) (sym s.2) (word_lt s.0 b), ap digits_of s.2 ∙ row_word s.0 b)
 

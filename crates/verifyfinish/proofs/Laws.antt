@@ -5,6 +5,7 @@ use native.Mathlib.Omega.{arith}
 use mathlib.Core.Path.{◌≡◌, sym, ap, ap₂, ◌∙◌, subst}
 use mathlib.Core.List.{List, map}
 use mathlib.Core.Bool.{Bool, true}
+use Rattle.std.specs.Prelude.{Ok, Err}
 use lib.ListN.{length, length-map, length-drop}
 use lib.Seq.{length-take-le}
 use Rattle.nibbles.specs.Nibbles.{word}
@@ -14,14 +15,14 @@ use Rattle.alphabet.specs.Alphabet.{all_of, value_of}
 use Rattle.alphabet.specs.declared.Class.TheVariants.{Digit}
 use Rattle.alphabet.proofs.Laws.{value_below}
 use Rattle.numbers.specs.Numbers.{Outcome, refused}
+use Rattle.numbers.specs.Answers.{verdict_of}
+use Rattle.numbers.proofs.Laws.{result_err}
 use Rattle.numbers.specs.declared.Refusal.{Refusal}
-use Rattle.pins.specs.Answers.{pin_of, verdict_of}
+use Rattle.pins.specs.Answers.{pin_of}
 use Rattle.pins.specs.declared.Pin.{Pin}
 use Rattle.answers.specs.Answers.{digits_of}
-use Rattle.offsets.specs.Answers.{comparison_of, pair_in, Fit}
+use Rattle.offsets.specs.Answers.{compared_of, comparison_of, pair_in, Fit}
 use Rattle.offsets.specs.declared.Compared.{Compared}
-use Rattle.offsets.specs.declared.Comparison.TheVariants as comparison
-use Rattle.offsets.proofs.Laws.{comparison_bad}
 use Rattle.verdicts.specs.Verdicts.{verdict_on}
 use Rattle.keybox.specs.declared.Boxed.{Boxed}
 use Rattle.offsetting.specs.Offsetting.{part}
@@ -62,11 +63,11 @@ module _ (s : List ℕ) (v : Verification) (placed : Placed s v) where
     found = pair_at s v.sealed v.offsetting (box_rows boxed)
 
     -- there is no PIN in the block
-    pub finish_unread : (q : Refusal) → comparison.Bad q ≡ comparison_of found → verify_finish variable s v (box_rows boxed) ≡ refused q
+    pub finish_unread : (q : Refusal) → Err q ≡ comparison_of found → verify_finish variable s v (box_rows boxed) ≡ refused q
     unfolding verify_finish
-    finish_unread q e = rw (comparison_bad found q e)
+    finish_unread q e = rw (result_err compared_of found q e)
 
-    module _ (c : Compared) (got : comparison.Of c ≡ comparison_of found) (presented : Pin) (held : presented ≡ pin_of (offset_in s v)) where
+    module _ (c : Compared) (got : Ok c ≡ comparison_of found) (presented : Pin) (held : presented ≡ pin_of (offset_in s v)) where
       -- the PIN and its natural PIN may be compared with what is presented
       pub verdict_may : Fit c × (presented.digits < 16 ^ presented.length)
       verdict_may = (

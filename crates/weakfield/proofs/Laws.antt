@@ -6,6 +6,7 @@ use native.Mathlib.Omega.{arith}
 use mathlib.Core.Path.{◌≡◌, refl, sym, ap, ◌∙◌}
 use mathlib.Core.List.{List}
 use mathlib.Core.Bool.{Bool, true, false, cond}
+use Rattle.std.specs.Prelude.{Some, None, Result, Ok, Err}
 use lib.ListN.{length, take, drop, length-drop}
 use lib.Seq.{drop-drop}
 use lib.Dec.{eqb}
@@ -17,16 +18,12 @@ use Rattle.numbers.proofs.Laws.{then_done, value_of_lem}
 use Rattle.numbers.specs.declared.Refusal.{Refusal}
 use Rattle.numbers.specs.declared.Refusal.TheVariants.{WeakList03, Field15}
 use Rattle.fields.specs.Fields.{Found, run, number, marked, behind}
-use Rattle.fields.specs.Answers.{cursor_at, value_from, mark_from}
+use Rattle.fields.specs.Answers.{cursor_at, found_at, mark_from}
 use Rattle.fields.specs.declared.Cursor.{Cursor}
-use Rattle.fields.specs.declared.Value.TheVariants as value
-use Rattle.fields.specs.declared.Mark.TheVariants.{Behind, Absent}
-use Rattle.fields.proofs.Laws.{run_whole, run_found, run_refuses, number_found, number_refuses, number_read, mark_there, mark_absent, value_of_found, value_of_bad}
+use Rattle.fields.proofs.Laws.{run_whole, run_found, number_found, number_read, mark_there, mark_absent, found_ok, found_err, found_behind}
 use Rattle.weak.specs.Answers.{Lies}
 use Rattle.weak.specs.declared.Weak.{Weak}
 use Rattle.weakfield.specs.WeakField.{none_at, listed, weak_field}
-use Rattle.weakfield.specs.Answers.{weak_from}
-use Rattle.weakfield.specs.declared.WeakRead.TheVariants.{Got, Bad}
 
 -- ---- behind the count
 
@@ -60,93 +57,75 @@ module _ (at count : ℕ) (cs : List ℕ) where
 -- what the code's answers tell of it, where the count ends at a place
 module _ (s : List ℕ) (count at : ℕ) (some : count ≡ 0 → ⊥) where
   -- it found no length
-  pub behind_unmeasured : (q : Refusal) → value.Bad q ≡ value_from at (number 4 12 Field15 (drop at s)) → Bad Field15 ≡ weak_from at (listed at count (drop at s))
-  behind_unmeasured q e =
-      let bad = value_of_bad at (number 4 12 Field15 (drop at s)) q e in
-      rw (listed_unmeasured at count (drop at s) some q bad, number_refuses 4 12 Field15 (drop at s) q bad)
+  pub behind_unmeasured : (q : Refusal) → Err q ≡ found_at at (number 4 12 Field15 (drop at s)) → Err q ≡ found_at at (listed at count (drop at s))
+  behind_unmeasured q e = rw (listed_unmeasured at count (drop at s) some q (found_err at (number 4 12 Field15 (drop at s)) q e))
 
   -- the list stands behind the length
-  behind_place : (each : ℕ) (list : Cursor) → value.Got each list ≡ value_from at (number 4 12 Field15 (drop at s)) → list.at ≡ at + 2
+  behind_place : (each : ℕ) (list : Cursor) → Ok (each, list) ≡ found_at at (number 4 12 Field15 (drop at s)) → list.at ≡ at + 2
   behind_place each list e = ap (λ (c : Cursor). c.at) (number_read s at each list 4 12 Field15 e).1
 
   -- so do the characters that it reads
-  behind_list : (each : ℕ) (list : Cursor) → value.Got each list ≡ value_from at (number 4 12 Field15 (drop at s)) → drop 2 (drop at s) ≡ drop list.at s
+  behind_list : (each : ℕ) (list : Cursor) → Ok (each, list) ≡ found_at at (number 4 12 Field15 (drop at s)) → drop 2 (drop at s) ≡ drop list.at s
   behind_list each list e = drop-drop 2 at s ∙ ap (λ (i : ℕ). drop i s) (sym (behind_place each list e))
 
   -- it found no list
-  pub behind_short : (each : ℕ) (list : Cursor) (q : Refusal) → value.Got each list ≡ value_from at (number 4 12 Field15 (drop at s))
-      → value.Bad q ≡ value_from list.at (run Digit WeakList03 WeakList03 (count * each) (drop list.at s)) → Bad WeakList03 ≡ weak_from at (listed at count (drop at s))
+  pub behind_short : (each : ℕ) (list : Cursor) (q : Refusal) → Ok (each, list) ≡ found_at at (number 4 12 Field15 (drop at s))
+      → Err q ≡ found_at list.at (run Digit WeakList03 WeakList03 (count * each) (drop list.at s)) → Err q ≡ found_at at (listed at count (drop at s))
   behind_short each list q e d =
-      let got = value_of_found at (number 4 12 Field15 (drop at s)) each list e in
-      let bad = value_of_bad list.at (run Digit WeakList03 WeakList03 (count * each) (drop list.at s)) q d in
-      rw (listed_short at count (drop at s) some each got.0 q got.1 (rw (behind_list each list e) bad), run_refuses Digit WeakList03 (count * each) (drop list.at s) q bad)
+      let got = found_ok at (number 4 12 Field15 (drop at s)) each list e in
+      let bad = found_err list.at (run Digit WeakList03 WeakList03 (count * each) (drop list.at s)) q d in
+      rw (listed_short at count (drop at s) some each got.0 q got.1 (rw (behind_list each list e) bad))
 
   -- it found the list
-  pub behind_whole : (each : ℕ) (list : Cursor) (v : ℕ) (next : Cursor) → value.Got each list ≡ value_from at (number 4 12 Field15 (drop at s))
-      → value.Got v next ≡ value_from list.at (run Digit WeakList03 WeakList03 (count * each) (drop list.at s))
-      → Got (list_at list.at count each) next ≡ weak_from at (listed at count (drop at s))
+  pub behind_whole : (each : ℕ) (list : Cursor) (v : ℕ) (next : Cursor) → Ok (each, list) ≡ found_at at (number 4 12 Field15 (drop at s))
+      → Ok (v, next) ≡ found_at list.at (run Digit WeakList03 WeakList03 (count * each) (drop list.at s))
+      → Ok ((list_at list.at count each), next) ≡ found_at at (listed at count (drop at s))
   behind_whole each list v next e d =
-      let got = value_of_found at (number 4 12 Field15 (drop at s)) each list e in
-      let found = value_of_found list.at (run Digit WeakList03 WeakList03 (count * each) (drop list.at s)) v next d in
+      let got = found_ok at (number 4 12 Field15 (drop at s)) each list e in
+      let found = found_ok list.at (run Digit WeakList03 WeakList03 (count * each) (drop list.at s)) v next d in
       let whole = listed_whole at count (drop at s) some each got.0 v found.0 got.1 (rw (behind_list each list e) found.1) in
-      placed list.at found.0 next (behind_place each list e) found.2 ∙ ap (weak_from at) (sym whole)
+      placed list.at found.0 next (behind_place each list e) found.2 ∙ ap (found_at at) (sym whole)
     where
-      placed : (i m : ℕ) (c : Cursor) → i ≡ at + 2 → c ≡ cursor_at (i + m) → Got (list_at i count each) c ≡ Got (list_at (at + 2) count each) (cursor_at (at + (2 + m)))
+      placed : (i m : ℕ) (c : Cursor) → i ≡ at + 2 → c ≡ cursor_at (i + m)
+          → ◌≡◌ {A = Result (Weak × Cursor) Refusal} (Ok (list_at i count each, c)) (Ok (list_at (at + 2) count each, cursor_at (at + (2 + m))))
       placed i m c a b = rw (b, a, add_assoc at 2 m)
 
 -- ---- the field
 
--- what was found behind n characters, as the code's answer from before them
-behind_from : (at n : ℕ) (o : Found Weak) → weak_from at (behind n o) ≡ weak_from (at + n) o
-behind_from at n (done r) = ap (λ (i : ℕ). Got r.0 (cursor_at i)) (sym (add_assoc at n r.1))
-behind_from at n (refused q) = refl
-
 -- what the code's answers tell of it
 module _ (mark at : ℕ) (s : List ℕ) where
   -- without its mark it is empty
-  pub field_absent : Absent ≡ mark_from at (marked mark (drop at s)) → Got (none_at at) (cursor_at at) ≡ weak_from at (weak_field mark at (drop at s))
+  pub field_absent : None ≡ mark_from at (marked mark (drop at s)) → Ok ((none_at at), (cursor_at at)) ≡ found_at at (weak_field mark at (drop at s))
   unfolding weak_field
   field_absent e = rw (mark_absent at (marked mark (drop at s)) e, add-zero at)
 
-  module _ (digits : Cursor) (there : Behind digits ≡ mark_from at (marked mark (drop at s))) where
+  module _ (digits : Cursor) (there : Some digits ≡ mark_from at (marked mark (drop at s))) where
     -- the count stands behind the mark
     counted_there : drop digits.at s ≡ drop 1 (drop at s)
     counted_there = ap (λ (c : Cursor). drop c.at s) (mark_there at (marked mark (drop at s)) digits there).1 ∙ sym (drop-drop 1 at s)
 
     -- without a count it is refused
-    pub field_uncounted : (q : Refusal) → value.Bad q ≡ value_from digits.at (number 0 99 WeakList03 (drop digits.at s)) → Bad WeakList03 ≡ weak_from at (weak_field mark at (drop at s))
+    pub field_uncounted : (q : Refusal) → Err q ≡ found_at digits.at (number 0 99 WeakList03 (drop digits.at s)) → Err q ≡ found_at at (weak_field mark at (drop at s))
     unfolding weak_field
     field_uncounted q e =
-        let bad = value_of_bad digits.at (number 0 99 WeakList03 (drop digits.at s)) q e in
-        rw ((mark_there at (marked mark (drop at s)) digits there).0, ← counted_there, bad, number_refuses 0 99 WeakList03 (drop digits.at s) q bad)
+        let bad = found_err digits.at (number 0 99 WeakList03 (drop digits.at s)) q e in
+        rw ((mark_there at (marked mark (drop at s)) digits there).0, ← counted_there, bad)
 
     -- a count has two digits and ends three characters behind the beginning of the field
-    pub counted_behind : (count : ℕ) (next : Cursor) → value.Got count next ≡ value_from digits.at (number 0 99 WeakList03 (drop digits.at s)) → (count ≤ 99) × (next.at ≡ at + 3)
+    pub counted_behind : (count : ℕ) (next : Cursor) → Ok (count, next) ≡ found_at digits.at (number 0 99 WeakList03 (drop digits.at s)) → (count ≤ 99) × (next.at ≡ at + 3)
     counted_behind count next e =
         let read = number_read s digits.at count next 0 99 WeakList03 e in
         let first = ap (λ (c : Cursor). c.at) (mark_there at (marked mark (drop at s)) digits there).1 in
         (read.4, ap (λ (c : Cursor). c.at) read.1 ∙ omega arith)
 
     -- with one the rest of it decides
-    pub field_counted : (count : ℕ) (next : Cursor) → value.Got count next ≡ value_from digits.at (number 0 99 WeakList03 (drop digits.at s))
-        → weak_from at (weak_field mark at (drop at s)) ≡ weak_from next.at (listed next.at count (drop next.at s))
+    pub field_counted : (count : ℕ) (next : Cursor) → Ok (count, next) ≡ found_at digits.at (number 0 99 WeakList03 (drop digits.at s))
+        → found_at at (weak_field mark at (drop at s)) ≡ found_at next.at (listed next.at count (drop next.at s))
     unfolding weak_field
     field_counted count next e =
-        let got = value_of_found digits.at (number 0 99 WeakList03 (drop digits.at s)) count next e in
+        let got = found_ok digits.at (number 0 99 WeakList03 (drop digits.at s)) count next e in
         rw ((mark_there at (marked mark (drop at s)) digits there).0, ← counted_there, got.1, drop-drop 3 at s, (counted_behind count next e).1)
-        (behind_from at 3 (listed (at + 3) count (drop (at + 3) s)))
-
--- ---- behind the code's answer
-
--- a weak list was found, so many characters ago
-pub weak_found : (at : ℕ) (o : Found Weak) (w : Weak) (c : Cursor) → Got w c ≡ weak_from at o → (n : ℕ) × (o ≡ done (w, n)) × (c ≡ cursor_at (at + n))
-weak_found at (done (v, n)) w c e = (n, cc, cc)
-weak_found at (refused q) w c e = absurd (let z : ◌≡◌ {A = ℕ} 0 1 = cc in omega arith)
-
--- none was
-pub weak_bad : (at : ℕ) (o : Found Weak) (q : Refusal) → Bad q ≡ weak_from at o → o ≡ refused q
-weak_bad at (done r) q e = absurd (let z : ◌≡◌ {A = ℕ} 0 1 = cc in omega arith)
-weak_bad at (refused p) q e = cc
+        (sym (found_behind at 3 (listed (at + 3) count (drop (at + 3) s))))
 
 -- ---- what a field that was found tells of the characters ahead
 

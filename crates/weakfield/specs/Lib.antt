@@ -1,2 +1,1 @@
 pub mod WeakField
-pub mod Answers

@@ -14,17 +14,6 @@ use Rattle.weak.specs.Answers.{Lies}
 use Rattle.weak.specs.declared.Weak.{Weak}
 use Rattle.weakfield.proofs.Laws.{weak_lies, weak_onward}
 use Rattle.weaklist.specs.WeakList.{weak}
-use Rattle.weaklist.specs.Answers.{weak_stage}
-use Rattle.weaklist.specs.declared.WeakStage.TheVariants as listed
-
--- what was read, and where the next stage begins; or the fault
-pub weak_found : (o : Stage Weak) (w : Weak) (c : Cursor) → listed.Got w c ≡ weak_stage o → o ≡ read w c.at
-weak_found (read x at) w c e = let p : x ≡ w = cc in let q : at ≡ c.at = cc in rw (p, q)
-weak_found (faulty f) w c e = absurd (let z : ◌≡◌ {A = ℕ} 0 1 = cc in omega arith)
-
-pub weak_bad : (o : Stage Weak) (f : Fault) → listed.Bad f ≡ weak_stage o → o ≡ faulty f
-weak_bad (read x at) f e = absurd (let z : ◌≡◌ {A = ℕ} 0 1 = cc in omega arith)
-weak_bad (faulty g) f e = cc
 
 -- the list lies in the command
 pub weak_held : (first mark : ℕ) (s : List ℕ) (at : ℕ) (w : Weak) (next : ℕ) → weak first mark s at ≡ read w next → at ≤ length s → Lies w s × (next ≤ length s)

@@ -1,2 +1,1 @@
 pub mod WeakList
-pub mod Answers

@@ -11,7 +11,7 @@ answer_digits-requires c =
     let room = length a.out.now in
     let o = read_block a.format a.block.now a.account.now room in
     let digital : Digital o room = read_digital a.format a.block.now a.account.now room in
-    digits_room o room digital _ c.judged_reading-judged.ensures
+    digits_room o room digital _ c.judged_reading.ensures
 
 pub returns : goal.returns
 returns c =
@@ -19,4 +19,4 @@ returns c =
     let room = length a.out.now in
     let o = read_block a.format a.block.now a.account.now room in
     let digital : Digital o room = read_digital a.format a.block.now a.account.now room in
-    digits_say o room digital _ c.judged_reading-judged.ensures c.answer_digits.ensures
+    digits_say o room digital _ c.judged_reading.ensures c.answer_digits.ensures

@@ -13,7 +13,7 @@ answer-requires c =
     let b = call_written a.format a.pin.now a.account.now a.fill.now (length a.out.now) in
     let fill = bytes_below a.fill.now c.type_inv.fill in
     let blocky : Blocky o (length a.out.now) = λ bs e. b bs fill e in
-    answer_room o (length a.out.now) blocky _ c.judged_writing-judged.ensures
+    answer_room o (length a.out.now) blocky _ c.judged_writing.ensures
 
 pub returns : goal.returns
 returns c =
@@ -22,4 +22,4 @@ returns c =
     let b = call_written a.format a.pin.now a.account.now a.fill.now (length a.out.now) in
     let fill = bytes_below a.fill.now c.type_inv.fill in
     let blocky : Blocky o (length a.out.now) = λ bs e. b bs fill e in
-    answer_says o (length a.out.now) blocky _ c.judged_writing-judged.ensures c.answer.ensures
+    answer_says o (length a.out.now) blocky _ c.judged_writing.ensures c.answer.ensures

@@ -5,7 +5,7 @@ use mathlib.Core.Bool.{true, false}
 use mathlib.Core.Path.{◌≡◌, ap, sym, ◌∙◌}
 use lib.Seq.{slice}
 use lib.ListN.{length}
-use Rattle.pins.specs.declared.Count.TheVariants.{Of}
+use Rattle.std.proofs.Common.{Ok}
 use Rattle.blocks.proofs.Laws.{whole_row, before_part}
 use Rattle.nibbles.proofs.Rows.{row_length}
 use Rattle.nibbles.proofs.Runs.{run_whole, run_broken, leading_le}
@@ -48,4 +48,4 @@ pub returns : goal.returns
 returns c =
     let w = c.args.clear in
     let n = ended w ∙ sym c.run_end-n.ensures in
-    rw (whole w c.run_end-n.result n (rw c.run_end.ensures at c.if-run_end-n.false)) (ap Of (sym n))
+    rw (whole w c.run_end-n.result n (rw c.run_end.ensures at c.if-run_end-n.false)) (ap Ok (sym n))

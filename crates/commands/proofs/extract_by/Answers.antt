@@ -1,6 +1,6 @@
 -- `commands::extract_by` meets its contract.
 use mathlib.Core.Path.{sym, ap, ◌∙◌}
-use Rattle.responses.specs.declared.Asked.TheVariants.{Bad}
+use Rattle.std.proofs.Common.{Err}
 use Rattle.commands.specs.Commands.{extract_by}
 use Rattle.commands.proofs.extract_by.Goals as goal
 
@@ -18,4 +18,4 @@ returns-in-Ea c = rw (sym c.at.ensures ∙ c.in-Ea.is) c.extract-in-Ea.ensures
 
 pub returns-in-Other : goal.returns-in-Other
 unfolding extract_by
-returns-in-Other c = ap Bad c.unpointed.ensures ∙ rw (sym c.at.ensures ∙ c.in-Other.is)
+returns-in-Other c = rw (sym c.at.ensures ∙ c.in-Other.is) (ap Err c.from.ensures)

@@ -1,10 +1,9 @@
 -- `ibm3624::offset` meets its contract.
-use Prim.Native.Nat.{ℕ, ◌≤◌, ◌-◌}
+use Prim.Native.Nat.{ℕ, ◌-◌}
 use native.Mathlib.Omega.{arith}
-use mathlib.Core.Path.{◌≡◌, sym, ap, ◌∙◌, ap₂}
+use mathlib.Core.Path.{sym, ap, ◌∙◌, ap₂}
 use lib.Dec.{lit≤}
 use lib.ListN.{drop}
-use borrow.Author.Rules.{rules}
 use Rattle.ibm3624.proofs.Laws.{offset_length, offset_below, offset_at, pin_nibble, natural_nibble, pin_digit, natural_digit}
 use Rattle.nibbles.proofs.Lists.{below_weaken}
 use Rattle.nibbles.proofs.Rows.{word_next, word_room, word_none}
@@ -12,15 +11,12 @@ use Rattle.ibm3624.specs.Ibm3624.{difference, modulo_ten, offset_of}
 use Rattle.nibbles.specs.Nibbles.{row, word}
 use Rattle.ibm3624.proofs.offset.Goals as goal
 
-pub overflow_sub-skipped : goal.overflow_sub-skipped
-overflow_sub-skipped c = omega (arith, c.requires.within)
-
 pub loop-i-init : goal.loop-i-init
 loop-i-init c =
     let a = c.args in
     let pre = c.requires in
     let ws = offset_of a.m (row a.n a.pin) (row a.n a.natural) in
-    (search rules, word_none ws ∙ ap (λ (k : ℕ). word (drop k ws)) (offset_length a.m a.n a.pin a.natural pre))
+    word_none ws ∙ ap (λ (k : ℕ). word (drop k ws)) (offset_length a.m a.n a.pin a.natural pre)
 
 pub overflow_mul-w : goal.overflow_mul-w
 overflow_mul-w c =
@@ -29,19 +25,7 @@ overflow_mul-w c =
     let l = c.loop-i in
     let ws = offset_of a.m (row a.n a.pin) (row a.n a.natural) in
     let long = offset_length a.m a.n a.pin a.natural pre in
-    omega (arith, word_room ws l.i l.w (omega arith) (rw long l.invariant.0) l.invariant.1 (below_weaken 10 16 ws (lit≤ tt) (offset_below a.m a.n a.pin a.natural pre)) (omega (arith, long, pre.within, pre.short)))
-
-pub overflow_add-skipped : goal.overflow_add-skipped
-overflow_add-skipped c = omega (arith, c.requires.within, c.requires.short)
-
-pub nibble-requires : goal.nibble-requires
-nibble-requires c = omega (arith, c.requires.within, c.requires.short)
-
-pub overflow_add-skipped-in-loop-i : goal.overflow_add-skipped-in-loop-i
-overflow_add-skipped-in-loop-i c = omega (arith, c.requires.within, c.requires.short)
-
-pub nibble-requires-in-loop-i : goal.nibble-requires-in-loop-i
-nibble-requires-in-loop-i c = omega (arith, c.requires.within, c.requires.short)
+    omega (arith, word_room ws l.i l.w (omega arith) (rw long (omega arith)) l.invariant (below_weaken 10 16 ws (lit≤ tt) (offset_below a.m a.n a.pin a.natural pre)) (omega (arith, long, pre.within, pre.short)))
 
 pub reduced-requires : goal.reduced-requires
 reduced-requires c =
@@ -64,7 +48,7 @@ overflow_add-w c =
     let p = c.nibble.ensures ∙ pin_nibble a.m a.n a.pin a.natural pre (l.i - 1) (omega arith) in
     let q = c.nibble-in-loop-i.ensures ∙ natural_nibble a.m a.n a.pin a.natural pre (l.i - 1) (omega arith) in
     let v = c.reduced.ensures ∙ ap₂ (λ (x y : ℕ). modulo_ten (difference x y)) p q ∙ sym (offset_at a.m a.n a.pin a.natural pre (l.i - 1) (omega arith)) in
-    rw v (record { fits = word_room ws l.i l.w (omega arith) (rw long l.invariant.0) l.invariant.1 (below_weaken 10 16 ws (lit≤ tt) (offset_below a.m a.n a.pin a.natural pre)) (omega (arith, long, pre.within, pre.short)) })
+    rw v (record { fits = word_room ws l.i l.w (omega arith) (rw long (omega arith)) l.invariant (below_weaken 10 16 ws (lit≤ tt) (offset_below a.m a.n a.pin a.natural pre)) (omega (arith, long, pre.within, pre.short)) })
 
 pub loop-i-preserved : goal.loop-i-preserved
 loop-i-preserved c =
@@ -76,14 +60,4 @@ loop-i-preserved c =
     let p = c.nibble.ensures ∙ pin_nibble a.m a.n a.pin a.natural pre (l.i - 1) (omega arith) in
     let q = c.nibble-in-loop-i.ensures ∙ natural_nibble a.m a.n a.pin a.natural pre (l.i - 1) (omega arith) in
     let v = c.reduced.ensures ∙ ap₂ (λ (x y : ℕ). modulo_ten (difference x y)) p q ∙ sym (offset_at a.m a.n a.pin a.natural pre (l.i - 1) (omega arith)) in
-    (omega arith, rw v (word_next ws l.i l.w (omega arith) (rw long l.invariant.0) l.invariant.1))
-
-pub returns : goal.returns
-returns c =
-    let a = c.args in
-    let pre = c.requires in
-    let l = c.loop-i in
-    let ws = offset_of a.m (row a.n a.pin) (row a.n a.natural) in
-    let long = offset_length a.m a.n a.pin a.natural pre in
-    let z : l.i ≡ 0 = omega arith in
-    l.invariant.1 ∙ ap (λ (k : ℕ). word (drop k ws)) z
+    rw v (word_next ws l.i l.w (omega arith) (rw long (omega arith)) l.invariant)

@@ -1,5 +1,4 @@
 -- What `ibm3624::put_differences` keeps from turn to turn.
-use Prim.Native.Nat.{◌+◌, ◌≤◌, ◌-◌}
 use mathlib.Core.List.{◌++◌}
 use mathlib.Core.Path.{◌≡◌}
 use lib.ListN.{take, drop}
@@ -8,7 +7,4 @@ use Rattle.nibbles.specs.Nibbles.{row}
 use Rattle.ibm3624.proofs.put_differences.Given as goal
 
 abbrev pub invariant-loop-i : goal.invariant-loop-i
-invariant-loop-i l = (l.i ≤ l.m) × (l.out ≡ take l.i (covered l.m (row l.n l.pin) (row l.n l.natural)) ++ drop l.i l.initial.out)
-
-abbrev pub decreases-loop-i : goal.decreases-loop-i
-decreases-loop-i l = l.m - l.i
+invariant-loop-i l = l.d-items ≡ take l.i (covered l.m (row l.n l.pin) (row l.n l.natural)) ++ drop l.i l.initial.d-items

@@ -1,30 +1,15 @@
 -- `keyfields::read_keys` meets its contract.
-use mathlib.Core.Path.{ap, sym, ◌∙◌}
-use lib.ListN.{drop}
-use Rattle.numbers.specs.declared.Refusal.{Refusal}
-use Rattle.fields.proofs.Laws.{field_found, field_bad}
+use Rattle.std.proofs.Common.{rules}
+use Rattle.std.proofs.lemmas.Result.{err_from_is_err_and}
+use Rattle.fields.proofs.Laws.{field_refused}
 use Rattle.keys.specs.Keys.{key_type}
-use Rattle.keys.proofs.Laws.{typed_found, typed_bad, type_refuses}
 use Rattle.keyfields.specs.KeyFields.{keys}
-use Rattle.keyfields.specs.declared.KeysRead.TheVariants.{Bad}
 use Rattle.keyfields.proofs.read_keys.Goals as goal
 
-pub returns-in_default : goal.returns-in_default
+-- written out: field_counted_from_0 falls by it
+pub returns-in_err-letters : goal.returns-in_err-letters
 unfolding keys
-returns-in_default c =
+returns-in_err-letters c =
     let a = c.args in
-    let s = a.command.now in
-    let bad = typed_bad a.start.at (key_type (drop a.start.at s)) _ (sym c.in_default.is ∙ c.key_type-typed.ensures) in
-    let number = type_refuses (drop a.start.at s) _ bad in
-    rw (field_bad a.field a.start.at _ key_type s _ bad)
-    (ap Bad (c.fault_at.ensures ∙ ap (λ (q : Refusal). record { refusal = q; field = a.field; place = a.start.at }) (sym number)))
-
-pub returns : goal.returns
-unfolding keys
-returns c =
-    let a = c.args in
-    let s = a.command.now in
-    let letters = c.in-Got.letters in
-    let behind = c.in-Got.at_first in
-    rw (field_found a.field a.start.at _ key_type s letters behind (typed_found _ _ _ _ (sym c.in-Got.is ∙ c.key_type-typed.ensures)))
-    c.read_pair.ensures
+    let p = err_from_is_err_and c.from_residual.result c.from_residual.ensures.1 in
+    rw (p.1, p.2, field_refused a.field a.start.at _ key_type a.command.now _ _ _ c.key_type-typed.ensures (search rules) c.in_err-letters.was)

@@ -9,8 +9,8 @@ pub returns : goal.returns
 returns c =
     let a = c.args in
     let told = c.answer in
-    let pin = c.odd_parity-pingood.ensures in
-    let pvk = c.odd_parity-pvkgood.ensures in
+    let pin = c.odd_parity.ensures in
+    let pvk = c.odd_parity-2.ensures in
     let clear = c.run.ensures ∙ c.clear_block-clear.ensures in
     let cipher = c.run-2.ensures ∙ c.validation_cipher-cipher.ensures in
     let room = length a.out.now in (

@@ -1,5 +1,4 @@
 -- What `naturals::natural` keeps from turn to turn.
-use Prim.Native.Nat.{◌≤◌, ◌-◌}
 use mathlib.Core.List.{map}
 use mathlib.Core.Path.{◌≡◌}
 use lib.ListN.{drop}
@@ -9,7 +8,4 @@ use Rattle.nibbles.specs.Nibbles.{row, word}
 use Rattle.naturals.proofs.natural.Given as goal
 
 abbrev pub invariant-loop-i : goal.invariant-loop-i
-invariant-loop-i l = (l.i ≤ l.n) × (l.w ≡ word (drop l.i (natural_of l.n (map value_of l.table) (row 16 l.enciphered))))
-
-abbrev pub decreases-loop-i : goal.decreases-loop-i
-decreases-loop-i l = l.i
+invariant-loop-i l = l.w ≡ word (drop l.i (natural_of l.n (map value_of l.table) (row 16 l.enciphered)))

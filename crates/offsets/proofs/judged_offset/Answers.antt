@@ -2,45 +2,30 @@
 use Prim.Native.Nat.{ℕ}
 use mathlib.Core.List.{List}
 use mathlib.Core.Path.{ap, sym, ◌∙◌}
-use borrow.Author.Tests.{le-leb, lt-leb}
-use Rattle.offsets.proofs.Laws.{offset_parts, given_fit, given_none, given_compared, given_incomparable}
-use Rattle.offsets.specs.Answers.{refusal_in}
-use Rattle.offsets.specs.Offsets.{offset_for, offset_judged}
-use Rattle.pins.specs.declared.Reading.TheVariants.{Bad}
+use borrow.Author.Tests.{le-leb}
+use Rattle.std.proofs.lemmas.Result.{err_from_is_err_and}
+use Rattle.offsets.proofs.Laws.{offset_parts, given_compared}
+use Rattle.offsets.specs.Answers.{compared_of, rows_in}
+use Rattle.offsets.specs.Offsets.{offset_for, pin_and_natural}
+use Rattle.numbers.proofs.Laws.{result_err}
 use Rattle.pins.specs.Answers.{reading_of}
-use Rattle.nibbles.proofs.Bytes.{bytes_below}
 use Rattle.offsets.proofs.judged_offset.Goals as goal
 
-pub returns-then-room-lt12 : goal.returns-then-room-lt12
-unfolding offset_judged
-returns-then-room-lt12 c =
-    let a = c.args in
-    rw (lt-leb 12 a.room c.if-room-lt12.true)
-
-pub returns-in_default : goal.returns-in_default
-returns-in_default c =
-    let a = c.args in
-    rw (offset_parts a.variable a.check a.room a.format a.block.now a.account.now a.table.now a.enciphered.now, le-leb 12 a.room c.if-room-lt12.false, given_none a.format a.check a.block.now a.account.now a.table.now a.enciphered.now _ (sym c.in_default.is ∙ c.taken-fields.ensures))
-
-pub paired-comparison-requires : goal.paired-comparison-requires
-paired-comparison-requires c =
-    let a = c.args in
-    let g = given_fit a.format a.check a.block.now a.account.now a.table.now a.enciphered.now (bytes_below a.block.now c.type_inv.block) (bytes_below a.enciphered.now c.type_inv.enciphered) _ (sym c.in-Of.is ∙ c.taken-fields.ensures) in
-    (g.2.whole, g.3)
-
-pub returns-in_default-comparison : goal.returns-in_default-comparison
-returns-in_default-comparison c =
-    let a = c.args in
-    let q = given_incomparable a.format a.check a.block.now a.account.now a.table.now a.enciphered.now (bytes_below a.block.now c.type_inv.block) (bytes_below a.enciphered.now c.type_inv.enciphered) _ (sym c.in-Of.is ∙ c.taken-fields.ensures) _ (sym c.in_default-comparison.is ∙ c.paired-comparison.ensures) in
-    rw (offset_parts a.variable a.check a.room a.format a.block.now a.account.now a.table.now a.enciphered.now, le-leb 12 a.room c.if-room-lt12.false, q.1, q.2) (ap Bad (c.refusal.ensures ∙ ap refusal_in c.in_default-comparison.is))
+pub returns-in_err-p : goal.returns-in_err-p
+returns-in_err-p c =
+    let i = c.args.inputs in
+    let bad = result_err compared_of (pin_and_natural i.format i.table.now (rows_in c.in_ok-rows.rows)) _ (sym c.in_err-p.was ∙ c.paired.ensures) in
+    let p = err_from_is_err_and c.from_residual-in_err-p.result c.from_residual-in_err-p.ensures.1 in
+    rw (p.1, p.2, offset_parts c.args.variable i.check c.args.room i.format i.block.now i.account.now i.table.now i.enciphered.now, le-leb 12 c.args.room c.if-room-lt12.false, c.in_ok-rows.ensures.held, bad)
 
 pub offset_for-requires : goal.offset_for-requires
 offset_for-requires c =
-    let a = c.args in
-    (given_compared a.format a.check a.block.now a.account.now a.table.now a.enciphered.now (bytes_below a.block.now c.type_inv.block) (bytes_below a.enciphered.now c.type_inv.enciphered) _ (sym c.in-Of.is ∙ c.taken-fields.ensures) _ (sym c.in-Of-comparison.is ∙ c.paired-comparison.ensures)).4
+    let i = c.args.inputs in
+    (given_compared i.format i.check i.block.now i.account.now i.table.now i.enciphered.now c.in_ok-rows.rows c.in_ok-rows.ensures.held _ (sym c.in_ok-p.was ∙ c.paired.ensures)).2
 
 pub returns : goal.returns
 returns c =
-    let a = c.args in
-    let p = given_compared a.format a.check a.block.now a.account.now a.table.now a.enciphered.now (bytes_below a.block.now c.type_inv.block) (bytes_below a.enciphered.now c.type_inv.enciphered) _ (sym c.in-Of.is ∙ c.taken-fields.ensures) _ (sym c.in-Of-comparison.is ∙ c.paired-comparison.ensures) in
-    rw (offset_parts a.variable a.check a.room a.format a.block.now a.account.now a.table.now a.enciphered.now, le-leb 12 a.room c.if-room-lt12.false, p.1, p.3) (c.offset_for.ensures ∙ ap (λ (q : List ℕ × List ℕ). reading_of (offset_for a.variable a.check q)) p.5)
+    let i = c.args.inputs in
+    let p = given_compared i.format i.check i.block.now i.account.now i.table.now i.enciphered.now c.in_ok-rows.rows c.in_ok-rows.ensures.held _ (sym c.in_ok-p.was ∙ c.paired.ensures) in
+    rw (offset_parts c.args.variable i.check c.args.room i.format i.block.now i.account.now i.table.now i.enciphered.now, le-leb 12 c.args.room c.if-room-lt12.false, c.in_ok-rows.ensures.held, p.1)
+    (c.offset_for.ensures ∙ ap (λ (q : List ℕ × List ℕ). reading_of (offset_for c.args.variable i.check q)) p.3)

@@ -4,23 +4,24 @@ use lib.ListN.{length}
 use Rattle.offsets.proofs.Laws.{Texty, answered, roomy, offset_texty}
 use Rattle.offsets.specs.Answers.{text_of, Roomy}
 use Rattle.offsets.specs.Offsets.{offset_judged, spelt}
-use Rattle.pins.specs.declared.Reading.{Reading}
+use Rattle.numbers.specs.declared.Refusal.{Refusal}
+use Rattle.pins.specs.declared.Pin.{Pin}
+use Rattle.std.specs.Prelude.{Result}
 use Rattle.numbers.proofs.Laws.{does_as}
-use Rattle.nibbles.proofs.Bytes.{bytes_below}
 use Rattle.offsets.proofs.offset.Goals as goal
 
 pub answer-requires : goal.answer-requires
 answer-requires c =
     let a = c.args in
     let room = length a.out.now in
-    let o = offset_judged a.settings.variable a.format a.check a.block.now a.account.now a.table.now a.enciphered.now room in
-    let texty : Texty o room = offset_texty a.settings.variable a.format a.check a.block.now a.account.now a.table.now a.enciphered.now room (bytes_below a.block.now c.type_inv.block) (bytes_below a.enciphered.now c.type_inv.enciphered) in
-    subst (λ (j : Reading). Roomy j room) (sym c.judged_offset-judged.ensures) (roomy o room texty)
+    let o = offset_judged a.settings.variable a.inputs.format a.inputs.check a.inputs.block.now a.inputs.account.now a.inputs.table.now a.inputs.enciphered.now room in
+    let texty : Texty o room = offset_texty a.settings.variable a.inputs.format a.inputs.check a.inputs.block.now a.inputs.account.now a.inputs.table.now a.inputs.enciphered.now room in
+    subst (λ (j : Result Pin Refusal). Roomy j room) (sym c.judged_offset.ensures) (roomy o room texty)
 
 pub returns : goal.returns
 returns c =
     let a = c.args in
     let room = length a.out.now in
-    let o = offset_judged a.settings.variable a.format a.check a.block.now a.account.now a.table.now a.enciphered.now room in
-    let texty : Texty o room = offset_texty a.settings.variable a.format a.check a.block.now a.account.now a.table.now a.enciphered.now room (bytes_below a.block.now c.type_inv.block) (bytes_below a.enciphered.now c.type_inv.enciphered) in
-    does_as _ (spelt o) (ap text_of c.judged_offset-judged.ensures ∙ answered o room texty) c.answer.ensures
+    let o = offset_judged a.settings.variable a.inputs.format a.inputs.check a.inputs.block.now a.inputs.account.now a.inputs.table.now a.inputs.enciphered.now room in
+    let texty : Texty o room = offset_texty a.settings.variable a.inputs.format a.inputs.check a.inputs.block.now a.inputs.account.now a.inputs.table.now a.inputs.enciphered.now room in
+    does_as _ (spelt o) (ap text_of c.judged_offset.ensures ∙ answered o room texty) c.answer.ensures

@@ -7,7 +7,6 @@ use Rattle.offsets.specs.Offsets.{pin_with_natural}
 use Rattle.offsets.specs.Answers.{comparison_of, rows_in}
 use Rattle.offsets.specs.declared.Rows.{Rows}
 use Rattle.offsetting.specs.Offsetting.{part}
-use Rattle.offsetting.proofs.Laws.{values_under}
 use Rattle.pairing.proofs.Laws.{cut, table_decimal, pair_found}
 use Rattle.pairing.proofs.pair.Goals as goal
 
@@ -15,7 +14,7 @@ pub with_natural-requires : goal.with_natural-requires
 with_natural-requires c =
     let s = c.args.command.now in
     let o = c.args.inputs in
-    (table_decimal s o c.requires _ (cut o.table 16 16 refl), values_under s o.account 12 c.requires.account _ c.account_at.ensures)
+    table_decimal s o c.requires _ (cut o.table 16 16 refl)
 
 pub returns : goal.returns
 returns c =

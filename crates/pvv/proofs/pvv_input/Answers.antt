@@ -11,7 +11,7 @@ answer-requires c =
     let room = length a.out.now in
     let o = pvv_input a.format a.index a.block.now a.account.now room in
     let blocky : Blocky o room = call_input a.format a.index a.block.now a.account.now room in
-    answer_room o room blocky _ c.judged_input-judged.ensures
+    answer_room o room blocky _ c.judged_input.ensures
 
 pub returns : goal.returns
 returns c =
@@ -19,4 +19,4 @@ returns c =
     let room = length a.out.now in
     let o = pvv_input a.format a.index a.block.now a.account.now room in
     let blocky : Blocky o room = call_input a.format a.index a.block.now a.account.now room in
-    answer_says o room blocky _ c.judged_input-judged.ensures c.answer.ensures
+    answer_says o room blocky _ c.judged_input.ensures c.answer.ensures

@@ -1,5 +1,4 @@
 -- What `pvvdigits::scan` keeps from turn to turn.
-use Prim.Native.Nat.{◌-◌, ◌≤◌}
 use mathlib.Core.List.{◌++◌}
 use mathlib.Core.Path.{◌≡◌}
 use lib.ListN.{take, drop}
@@ -10,7 +9,4 @@ use Rattle.nibbles.specs.Nibbles.{row}
 use Rattle.pvvdigits.proofs.scan.Given as goal
 
 abbrev pub invariant-loop-i : goal.invariant-loop-i
-invariant-loop-i l = (l.i ≤ 16) × Taken l.taken × (take 4 (digits_of l.taken ++ found l.low l.high l.less (drop l.i (row 16 l.enciphered))) ≡ take 4 (digits_of l.initial.taken ++ found l.low l.high l.less (row 16 l.enciphered)))
-
-abbrev pub decreases-loop-i : goal.decreases-loop-i
-decreases-loop-i l = 16 - l.i
+invariant-loop-i l = Taken l.taken × (take 4 (digits_of l.taken ++ found l.low l.high l.less (drop l.i (row 16 l.enciphered))) ≡ take 4 (digits_of l.initial.taken ++ found l.low l.high l.less (row 16 l.enciphered)))

@@ -14,7 +14,7 @@ use Rattle.quillgimlet.proofs.qg_answer.Goals as goal
 pub wide-requires : goal.wide-requires
 wide-requires c =
     let a = c.args in
-    let settings = c.inner.result in
+    let settings = c.from.result in
     let room = length a.out.now in
     let o = replying settings (yes? a.pinparity) (yes? a.pvkparity) a.command.now a.block.now a.enciphered.now room in
     subst (λ (p : Pointer). (p.place ≤ 4096) × (p.field ≤ 4096)) (sym c.answer-told.ensures.1)
@@ -23,7 +23,7 @@ wide-requires c =
 pub returns : goal.returns
 returns c =
     let a = c.args in
-    let e = c.inner.ensures in
+    let e = c.from.ensures in
     let told = c.answer-told.ensures in
     faced c.wide.result (ap (λ (s : Settings). answered s (yes? a.pinparity) (yes? a.pvkparity) a.command.now a.block.now a.enciphered.now (length a.out.now)) e)
     (told.1 ∙ ap (λ (s : Settings). shown (replying s (yes? a.pinparity) (yes? a.pvkparity) a.command.now a.block.now a.enciphered.now (length a.out.now))) e) told.0 c.wide.ensures

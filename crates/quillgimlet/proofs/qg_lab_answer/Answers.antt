@@ -15,7 +15,7 @@ pub wide-requires : goal.wide-requires
 unfolding lab_replying
 wide-requires c =
     let a = c.args in
-    let settings = c.inner.result in
+    let settings = c.from.result in
     let s = a.command.now in
     let room = length a.out.now in
     subst (λ (p : Pointer). (p.place ≤ 4096) × (p.field ≤ 4096)) (sym c.answer-told.ensures.1)
@@ -25,7 +25,7 @@ wide-requires c =
 pub returns : goal.returns
 returns c =
     let a = c.args in
-    let e = c.inner.ensures in
+    let e = c.from.ensures in
     let told = c.answer-told.ensures in
     faced c.wide.result (ap (λ (s : Settings). lab_answered s a.command.now a.pinkey.now a.pvk.now (length a.out.now)) e)
     (told.1 ∙ ap (λ (s : Settings). shown (lab_replying s a.command.now a.pinkey.now a.pvk.now (length a.out.now))) e) told.0 c.wide.ensures

@@ -14,14 +14,14 @@ use Rattle.quillgimlet.proofs.qg_pin_block.Goals as goal
 pub wide-requires : goal.wide-requires
 wide-requires c =
     let a = c.args in
-    let o = extracting c.inner.result a.command.now (length a.out.now) in
+    let o = extracting c.from.result a.command.now (length a.out.now) in
     subst (λ (p : Pointer). (p.place ≤ 4096) × (p.field ≤ 4096)) (sym c.pin_block-told.ensures.1)
-    (shown_short a.command.now o (extracting_rules a.command.now c.inner.result (length a.out.now)))
+    (shown_short a.command.now o (extracting_rules a.command.now c.from.result (length a.out.now)))
 
 pub returns : goal.returns
 returns c =
     let a = c.args in
-    let e = c.inner.ensures in
+    let e = c.from.ensures in
     let told = c.pin_block-told.ensures in
     faced c.wide.result (ap (λ (s : Settings). quietly (extracted s a.command.now (length a.out.now))) e)
     (told.1 ∙ ap (λ (s : Settings). shown (extracting s a.command.now (length a.out.now))) e) told.0 c.wide.ensures

@@ -13,7 +13,7 @@ answer-requires c =
     let o = translate_block a.settings.restricted a.from a.to a.block.now a.account.now a.fill.now room in
     let blocky : Blocky o room = call_translated a.settings.restricted a.from a.to a.block.now a.account.now a.fill.now room
     (bytes_below a.block.now c.type_inv.block) (bytes_below a.fill.now c.type_inv.fill) in
-    answer_room o room blocky _ c.judged-judgement.ensures
+    answer_room o room blocky _ c.judged.ensures
 
 pub returns : goal.returns
 returns c =
@@ -22,4 +22,4 @@ returns c =
     let o = translate_block a.settings.restricted a.from a.to a.block.now a.account.now a.fill.now room in
     let blocky : Blocky o room = call_translated a.settings.restricted a.from a.to a.block.now a.account.now a.fill.now room
     (bytes_below a.block.now c.type_inv.block) (bytes_below a.fill.now c.type_inv.fill) in
-    answer_says o room blocky _ c.judged-judgement.ensures c.answer.ensures
+    answer_says o room blocky _ c.judged.ensures c.answer.ensures

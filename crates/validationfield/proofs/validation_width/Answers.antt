@@ -6,12 +6,12 @@ use Rattle.fields.proofs.Laws.{mark_there, mark_absent}
 use Rattle.validation.proofs.Laws.{led_by_p}
 use Rattle.validationfield.proofs.validation_width.Goals as goal
 
-pub returns-in_default : goal.returns-in_default
-returns-in_default c =
+pub returns-in-Some : goal.returns-in-Some
+returns-in-Some c =
     let a = c.args in
-    rw (sym (led_by_p (drop a.cursor.at a.command.now)) ∙ mark_absent a.cursor.at (marked 0x50 (drop a.cursor.at a.command.now)) (sym c.in_default.is ∙ c.mark-marked.ensures))
+    rw (sym (led_by_p (drop a.cursor.at a.command.now)) ∙ (mark_there a.cursor.at (marked 0x50 (drop a.cursor.at a.command.now)) _ (sym c.in-Some.is ∙ c.mark.ensures)).0)
 
-pub returns : goal.returns
-returns c =
+pub returns-in-None : goal.returns-in-None
+returns-in-None c =
     let a = c.args in
-    rw (sym (led_by_p (drop a.cursor.at a.command.now)) ∙ (mark_there a.cursor.at (marked 0x50 (drop a.cursor.at a.command.now)) _ (sym c.in-Behind.is ∙ c.mark-marked.ensures)).0)
+    rw (sym (led_by_p (drop a.cursor.at a.command.now)) ∙ mark_absent a.cursor.at (marked 0x50 (drop a.cursor.at a.command.now)) (sym c.in-None.is ∙ c.mark.ensures))

@@ -1,52 +1,36 @@
 -- `verdicts::judged_verdict` meets its contract.
 use Prim.Native.Nat.{ℕ}
 use mathlib.Core.List.{List}
-use mathlib.Core.Path.{ap, ap₂, sym, ◌∙◌}
-use Rattle.offsets.proofs.Laws.{given_fit, given_none, given_compared, given_incomparable}
-use Rattle.verdicts.proofs.Laws.{verdict_parts, presented_refused, presented_held}
-use Rattle.offsets.specs.Answers.{refusal_in}
+use mathlib.Core.Path.{ap₂, sym, ◌∙◌}
+use Rattle.std.proofs.lemmas.Result.{err_from_is_err_and}
+use Rattle.offsets.specs.Answers.{compared_of, rows_in}
+use Rattle.offsets.specs.Offsets.{pin_and_natural}
+use Rattle.offsets.proofs.Laws.{given_compared}
+use Rattle.verdicts.proofs.Laws.{verdict_parts, presented_held}
 use Rattle.verdicts.specs.Verdicts.{verdict_on}
-use Rattle.offsettexts.specs.OffsetTexts.{offset_presented}
-use Rattle.pins.proofs.Laws.{reading_bad}
-use Rattle.pins.specs.declared.Verdict.TheVariants.{Refused}
-use Rattle.pins.specs.Answers.{verdict_of}
-use Rattle.nibbles.proofs.Bytes.{bytes_below}
+use Rattle.numbers.specs.Answers.{verdict_of}
+use Rattle.numbers.proofs.Laws.{result_err}
 use Rattle.verdicts.proofs.judged_verdict.Goals as goal
 
-pub returns-in_default : goal.returns-in_default
-returns-in_default c =
-    let a = c.args in
-    rw (verdict_parts a.variable a.format a.check a.block.now a.account.now a.table.now a.enciphered.now a.offset.now, given_none a.format a.check a.block.now a.account.now a.table.now a.enciphered.now _ (sym c.in_default.is ∙ c.taken-fields.ensures))
-
-pub returns-in_default-shown : goal.returns-in_default-shown
-returns-in_default-shown c =
-    let a = c.args in
-    let g = given_fit a.format a.check a.block.now a.account.now a.table.now a.enciphered.now (bytes_below a.block.now c.type_inv.block) (bytes_below a.enciphered.now c.type_inv.enciphered) _ (sym c.in-Of.is ∙ c.taken-fields.ensures) in
-    rw (verdict_parts a.variable a.format a.check a.block.now a.account.now a.table.now a.enciphered.now a.offset.now, g.1, presented_refused a.offset.now _ (reading_bad (offset_presented a.offset.now) _ (sym c.in_default-shown.is ∙ c.presented-shown.ensures)))
-
-pub paired-comparison-requires : goal.paired-comparison-requires
-paired-comparison-requires c =
-    let a = c.args in
-    let g = given_fit a.format a.check a.block.now a.account.now a.table.now a.enciphered.now (bytes_below a.block.now c.type_inv.block) (bytes_below a.enciphered.now c.type_inv.enciphered) _ (sym c.in-Of.is ∙ c.taken-fields.ensures) in
-    (g.2.whole, g.3)
-
-pub returns-in_default-comparison : goal.returns-in_default-comparison
-returns-in_default-comparison c =
-    let a = c.args in
-    let s = presented_held a.offset.now _ (sym c.in-Got.is ∙ c.presented-shown.ensures) in
-    let q = given_incomparable a.format a.check a.block.now a.account.now a.table.now a.enciphered.now (bytes_below a.block.now c.type_inv.block) (bytes_below a.enciphered.now c.type_inv.enciphered) _ (sym c.in-Of.is ∙ c.taken-fields.ensures) _ (sym c.in_default-comparison.is ∙ c.paired-comparison.ensures) in
-    rw (verdict_parts a.variable a.format a.check a.block.now a.account.now a.table.now a.enciphered.now a.offset.now, q.1, s.1, q.2) (ap Refused (c.refusal.ensures ∙ ap refusal_in c.in_default-comparison.is))
+pub returns-in_err-p : goal.returns-in_err-p
+returns-in_err-p c =
+    let i = c.args.inputs in
+    let s = presented_held c.args.offset.now _ (sym c.in_ok-presented.was ∙ c.presented.ensures) in
+    let bad = result_err compared_of (pin_and_natural i.format i.table.now (rows_in c.in_ok-rows.rows)) _ (sym c.in_err-p.was ∙ c.paired.ensures) in
+    let p = err_from_is_err_and c.from_residual-in_err-p.result c.from_residual-in_err-p.ensures.1 in
+    rw (p.1, p.2, verdict_parts c.args.variable i.format i.check i.block.now i.account.now i.table.now i.enciphered.now c.args.offset.now, c.in_ok-rows.ensures.held, s.1, bad)
 
 pub verdict_on-requires : goal.verdict_on-requires
 verdict_on-requires c =
-    let a = c.args in
-    let s = presented_held a.offset.now _ (sym c.in-Got.is ∙ c.presented-shown.ensures) in
-    let p = given_compared a.format a.check a.block.now a.account.now a.table.now a.enciphered.now (bytes_below a.block.now c.type_inv.block) (bytes_below a.enciphered.now c.type_inv.enciphered) _ (sym c.in-Of.is ∙ c.taken-fields.ensures) _ (sym c.in-Of-comparison.is ∙ c.paired-comparison.ensures) in
-    (p.4, s.2)
+    let i = c.args.inputs in
+    let s = presented_held c.args.offset.now _ (sym c.in_ok-presented.was ∙ c.presented.ensures) in
+    let p = given_compared i.format i.check i.block.now i.account.now i.table.now i.enciphered.now c.in_ok-rows.rows c.in_ok-rows.ensures.held _ (sym c.in_ok-p.was ∙ c.paired.ensures) in
+    (p.2, s.2)
 
 pub returns : goal.returns
 returns c =
-    let a = c.args in
-    let s = presented_held a.offset.now _ (sym c.in-Got.is ∙ c.presented-shown.ensures) in
-    let p = given_compared a.format a.check a.block.now a.account.now a.table.now a.enciphered.now (bytes_below a.block.now c.type_inv.block) (bytes_below a.enciphered.now c.type_inv.enciphered) _ (sym c.in-Of.is ∙ c.taken-fields.ensures) _ (sym c.in-Of-comparison.is ∙ c.paired-comparison.ensures) in
-    rw (verdict_parts a.variable a.format a.check a.block.now a.account.now a.table.now a.enciphered.now a.offset.now, p.1, s.1, p.3) (c.verdict_on.ensures ∙ ap₂ (λ (os : List ℕ) (q : List ℕ × List ℕ). verdict_of (verdict_on a.variable a.check os q)) s.3 p.5)
+    let i = c.args.inputs in
+    let s = presented_held c.args.offset.now _ (sym c.in_ok-presented.was ∙ c.presented.ensures) in
+    let p = given_compared i.format i.check i.block.now i.account.now i.table.now i.enciphered.now c.in_ok-rows.rows c.in_ok-rows.ensures.held _ (sym c.in_ok-p.was ∙ c.paired.ensures) in
+    rw (verdict_parts c.args.variable i.format i.check i.block.now i.account.now i.table.now i.enciphered.now c.args.offset.now, c.in_ok-rows.ensures.held, s.1, p.1)
+    (c.verdict_on.ensures ∙ ap₂ (λ (os : List ℕ) (q : List ℕ × List ℕ). verdict_of (verdict_on c.args.variable i.check os q)) s.3 p.3)

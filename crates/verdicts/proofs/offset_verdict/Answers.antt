@@ -2,15 +2,14 @@
 use mathlib.Core.Path.{ap, ◌∙◌}
 use Rattle.verdicts.proofs.Laws.{verdict_nothing}
 use Rattle.verdicts.specs.Verdicts.{offset_verdict}
-use Rattle.pins.proofs.Laws.{verdict_said}
-use Rattle.pins.specs.Answers.{verdict_says}
-use Rattle.numbers.proofs.Laws.{does_as}
+use Rattle.numbers.specs.Answers.{verdict_says}
+use Rattle.numbers.proofs.Laws.{does_as, verdict_said}
 use Rattle.verdicts.proofs.offset_verdict.Goals as goal
 
 pub returns : goal.returns
 returns c =
     let a = c.args in
     let v = a.settings.variable in
-    let o = offset_verdict v a.format a.check a.block.now a.account.now a.table.now a.enciphered.now a.offset.now in
-    let nothing = verdict_nothing v a.format a.check a.block.now a.account.now a.table.now a.enciphered.now a.offset.now in
-    does_as (verdict_says c.judged_verdict-judged.result) o (ap verdict_says c.judged_verdict-judged.ensures ∙ verdict_said o nothing) c.reply.ensures
+    let o = offset_verdict v a.inputs.format a.inputs.check a.inputs.block.now a.inputs.account.now a.inputs.table.now a.inputs.enciphered.now a.offset.now in
+    let nothing = verdict_nothing v a.inputs.format a.inputs.check a.inputs.block.now a.inputs.account.now a.inputs.table.now a.inputs.enciphered.now a.offset.now in
+    does_as (verdict_says c.judged_verdict.result) o (ap verdict_says c.judged_verdict.ensures ∙ verdict_said o nothing) c.verdict.ensures

@@ -5,7 +5,7 @@ use mathlib.Core.List.{List, map}
 use mathlib.Core.Path.{ap, sym, ◌∙◌}
 use borrow.Author.Rules.{rules}
 use Rattle.validation.proofs.Laws.{behind, shape_twelve, shape_seventeen}
-use Rattle.pins.specs.declared.Row.TheVariants.{Held}
+use Rattle.std.proofs.Common.{Ok}
 use Rattle.alphabet.specs.Alphabet.{value_of}
 use Rattle.nibbles.specs.Nibbles.{word}
 use Rattle.validation.specs.Validation.{validation_row}
@@ -27,14 +27,14 @@ pub returns-in-Template : goal.returns-in-Template
 unfolding validation_row
 returns-in-Template c =
     let a = c.args in
-    rw (sym c.requires ∙ c.in-Template.is) (ap Held c.with_account.ensures)
+    rw (sym c.requires ∙ c.in-Template.is) (ap Ok c.with_account.ensures)
 
 pub returns-in-Whole : goal.returns-in-Whole
 unfolding validation_row
 returns-in-Whole c =
     let a = c.args in
     rw (sym c.requires ∙ c.in-Whole.is)
-    (ap Held (c.values.ensures ∙ ap (λ (cs : List ℕ). word (map value_of cs)) (behind 1 a.validation.now)))
+    (ap Ok (c.values.ensures ∙ ap (λ (cs : List ℕ). word (map value_of cs)) (behind 1 a.validation.now)))
 
 pub returns-in-Neither : goal.returns-in-Neither
 unfolding validation_row

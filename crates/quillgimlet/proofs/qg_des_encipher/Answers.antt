@@ -1,7 +1,0 @@
--- `quillgimlet::qg_des_encipher` meets its contract.
-use mathlib.Core.Path.{refl}
-use Rattle.face.proofs.Laws.{faced}
-use Rattle.quillgimlet.proofs.qg_des_encipher.Goals as goal
-
-pub returns : goal.returns
-returns c = faced c.plain.result refl refl c.des.ensures c.plain.ensures

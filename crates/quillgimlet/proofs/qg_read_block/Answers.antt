@@ -1,7 +1,0 @@
--- `quillgimlet::qg_read_block` meets its contract.
-use mathlib.Core.Path.{refl}
-use Rattle.face.proofs.Laws.{faced}
-use Rattle.quillgimlet.proofs.qg_read_block.Goals as goal
-
-pub returns : goal.returns
-returns c = faced c.plain.result refl refl c.read_block.ensures c.plain.ensures
