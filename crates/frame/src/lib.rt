@@ -63,7 +63,7 @@ pub fn put_code(header: usize, command: &[u8], number: u32, out: &mut [u8])
     let ones = number % 10;
     let code = [
         command[header],
-        command[header + 1].wrapping_add(1),
+        ((command[header + 1] as u32 + 1) % 256) as u8,
         (0x30 + tens) as u8,
         (0x30 + ones) as u8,
     ];
