@@ -13,12 +13,13 @@ pub enum Class {
 }
 
 impl Class {
+    // A pattern for each range of a hex character: of one for both the compiler makes branches, and takes no sixteen at a time.
     pub fn admits(self, c: u8) -> bool
         ensures { result ≡ admits self c }
     {
         match self {
             Class::Digit => matches!(c, b'0'..=b'9'),
-            Class::CapitalHex => matches!(c, b'0'..=b'9' | b'A'..=b'F'),
+            Class::CapitalHex => matches!(c, b'0'..=b'9') || matches!(c, b'A'..=b'F'),
             Class::Printable => matches!(c, 0x20..=0x7e),
         }
     }
