@@ -240,6 +240,18 @@ field_passed {A} k at next reader s r p a c e m h = go (reader (drop at s)) (sub
     go (done b) m = let g : ◌≡◌ {A = A × Cursor} (b.0, cursor_at (at + b.1)) (a, c) = cc in ap (λ (x : A × Cursor). next x.0 x.1.at) g
     go (refused q) m = let w = err_from_is_err_and p m in absurd (let z : ◌≡◌ {A = ℕ} 0 1 = cc in omega arith)
 
+-- what the closure of `map_err` says of a fault, said otherwise
+pub err_weaker : {A E : Type 0} {P Q : E → Type 0} (r : Result A E) → IsErrAnd r P → ((e : E) → P e → Q e) → IsErrAnd r Q
+err_weaker (Ok x) h g = h
+err_weaker (Err e) h g = g e h
+
+-- faults that are one have one field and one place, for omega, which reads no equation of faults
+pub field_of : (f g : Fault) → f ≡ g → f.field ≡ g.field
+field_of f g e = ap (λ (x : Fault). x.field) e
+
+pub place_of : (f g : Fault) → f ≡ g → f.place ≡ g.place
+place_of f g e = ap (λ (x : Fault). x.place) e
+
 -- or its refusal at the field and its place is the fault
 pub field_refused : {A B : Type 0} (k at : ℕ) (next : A → ℕ → Stage B) (reader : List ℕ → Found A) (s : List ℕ) (r : Result (A × Cursor) Refusal) (p : Result (A × Cursor) Fault) (f : Fault)
     → r ≡ found_at at (reader (drop at s)) → MatchResult r (λ x. p ≡ Ok x) (λ e. IsErrAnd p (λ f. f ≡ record { refusal = e; field = k; place = at }))

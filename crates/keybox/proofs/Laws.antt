@@ -2,9 +2,9 @@
 -- Assumes nothing.
 use Prim.Native.Nat.{ℕ}
 use native.Mathlib.Omega.{arith}
-use mathlib.Core.Path.{◌≡◌, refl, sym, ap, ap₂, ◌∙◌}
+use mathlib.Core.Path.{◌≡◌, refl, sym, ap, ◌∙◌}
 use mathlib.Core.List.{List}
-use mathlib.Core.Bool.{Bool, true, false}
+use mathlib.Core.Bool.{Bool}
 use Rattle.std.specs.Prelude.{Result, Ok, Err, MatchResult, IsErrAnd, IfOk}
 use Rattle.std.proofs.lemmas.Result.{err_from_is_err_and, IfOk-at_ok}
 use lib.ListN.{length}
@@ -17,8 +17,7 @@ use Rattle.nibbles.specs.Nibbles.{word}
 use Rattle.pins.specs.Pins.{sized}
 use Rattle.pins.specs.Answers.{row_of}
 use Rattle.pins.proofs.Laws.{sized_done, block_row}
-use Rattle.answers.proofs.Laws.{bytes_sixteen, sixteen_word}
-use Rattle.fields.specs.Fields.{Ruling, pointing, unpointed, heard}
+use Rattle.fields.specs.Fields.{pointing, unpointed, heard}
 use Rattle.fields.specs.declared.Fault.{Fault}
 use Rattle.keybox.specs.KeyBox.{slices, parities, boxed}
 use Rattle.keybox.specs.Answers.{words_of, rows_held, sliced_of, parity_of, box_read}
@@ -88,6 +87,11 @@ module _ (end : ℕ) (g h : Bool) (block enciphered : List ℕ) where
   pub box_short : (q : Refusal) → Err q ≡ sliced_of (slices block enciphered) → boxed end g h block enciphered ≡ refused (record { refusal = q; field = 0; place = end })
   unfolding boxed
   box_short q e = rw (result_err words_of (slices block enciphered) q e)
+
+  -- which `map_err` points at the command's end
+  pub box_refused : (r : Result Boxed Refusal) (p : Result Boxed Fault) (f : Fault) → r ≡ sliced_of (slices block enciphered)
+      → MatchResult r (λ x. p ≡ Ok x) (λ e. IsErrAnd p (λ f. f ≡ record { refusal = e; field = 0; place = end })) → p ≡ Err f → boxed end g h block enciphered ≡ refused f
+  box_refused r p f e m h = let w = pointed_err r p 0 end f m h in box_short w.0 (sym w.1 ∙ e) ∙ ap refused (sym w.2)
 
   module _ (b : Boxed) (held : Ok b ≡ sliced_of (slices block enciphered)) where
     -- a parity is wrong
